@@ -1,0 +1,2 @@
+-- What the proofs of the prime fields' functions use.
+pub mod Reading

@@ -1,0 +1,2 @@
+-- What the proofs of the residues' functions use.
+pub mod Powers

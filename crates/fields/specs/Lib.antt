@@ -1,0 +1,4 @@
+pub mod Field
+pub mod Residue
+pub mod ResidueLaws
+pub mod Modulus
