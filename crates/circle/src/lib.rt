@@ -1,0 +1,2 @@
+// A key in shares, over any field.
+pub mod polynomial;
