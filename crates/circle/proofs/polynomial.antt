@@ -3,6 +3,6 @@ pub mod Values
 pub mod Unique
 pub mod Lagrange
 pub mod Hiding
-pub mod Constants
+pub mod ConstantLaws
 pub mod Laws
 pub mod Loops

@@ -1,2 +1,6 @@
 pub mod Lists
+pub mod Ids
 pub mod Polynomial
+pub mod Table
+pub mod Denial
+pub mod State

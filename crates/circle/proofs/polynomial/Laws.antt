@@ -2,7 +2,7 @@
 use mathlib.Core.Path.{sym, _∙_}
 use Rattle.fields.specs.Field.{Ops, FieldLaws}
 use Rattle.circle.specs.Polynomial.{PolynomialLaws}
-use Rattle.circle.proofs.polynomial.Constants.{interpolated-combine}
+use Rattle.circle.proofs.polynomial.ConstantLaws.{interpolated-combine}
 use Rattle.circle.proofs.polynomial.Hiding.{hiding}
 use Rattle.circle.proofs.polynomial.Lagrange.{interpolate, lagrange}
 use Rattle.circle.proofs.polynomial.Unique.{unique}

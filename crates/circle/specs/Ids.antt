@@ -1,0 +1,63 @@
+-- Sets of holder ids. An id is a number from 1 to 32. A set of ids is a number below 2 ^ 32, whose bit h - 1 tells whether h is in it. Assumes nothing.
+use mathlib.Core.Path.{_≡_}
+use mathlib.Core.Logic.{_≢_, _⊎_}
+use mathlib.Core.Bool.{Bool, true, false, cond, not, _&&_, _||_}
+use mathlib.Core.List.{List, [], _∷_}
+use Prim.Native.Nat.{ℕ, _+_, _-_, _/_, _%_, _^_, _<_, _≤_}
+use lib.Count.{ones}
+use lib.Dec.{ltb, leb, eqb}
+use lib.ListN.{length}
+use Rattle.std.specs.Finite.{nth}
+use Rattle.std.specs.Iters.{counting}
+use Rattle.std.specs.declared.option.Option.{Option}
+use Rattle.std.specs.shelf.Lawful.{all-pass}
+use Rattle.std.specs.shelf.Lists.{All, kept-by}
+
+-- h is an id
+abbrev pub is-id : ℕ → Bool
+is-id h = ltb 0 h && leb h 32
+
+-- h is an id that has a point in a field of this largest id
+abbrev pub has-point : ℕ → ℕ → Bool
+has-point largest h = leb 1 h && leb h largest
+
+-- the ids, ascending
+unfoldable pub ids : List ℕ
+ids = counting 1 32
+
+-- h is in the set. 0 is in none
+abbrev pub member : ℕ → ℕ → Bool
+member set h = ltb 0 h && eqb (set / 2 ^ (h - 1) % 2) 1
+
+-- the set with the id h. What is no id leaves it as it is
+abbrev pub inserted : ℕ → ℕ → ℕ
+inserted set h = cond (is-id h && not (member set h)) (set + 2 ^ (h - 1)) set
+
+-- the set without h
+abbrev pub removed : ℕ → ℕ → ℕ
+removed set h = cond (member set h) (set - 2 ^ (h - 1)) set
+
+-- the ids in the set, ascending. Shut, as `ids` is, so that no proof computes with 32 cases
+unfoldable pub members : ℕ → List ℕ
+members set = kept-by (member set) ids
+
+-- how many ids are in the set
+abbrev pub size : ℕ → ℕ
+size set = ones set
+
+-- no id of the set is above the largest
+abbrev pub within-largest : ℕ → ℕ → Bool
+within-largest set largest = eqb (set / 2 ^ largest) 0
+
+-- every id of the set a is in the set b
+abbrev pub subset : ℕ → ℕ → Bool
+subset a b = all-pass (member b) (members a)
+
+-- the lowest id of the set a that is not in the set b
+abbrev pub first-outside : ℕ → ℕ → Option ℕ
+first-outside a b = nth (kept-by (λ h. not (member b h)) (members a)) 0
+
+-- each number of the list is below all that follow it
+abbrev pub Ascends : List ℕ → Type 0
+Ascends [] = Unit {0}
+Ascends (x ∷ xs) = All (λ y. x < y) xs × Ascends xs
