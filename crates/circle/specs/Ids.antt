@@ -9,9 +9,11 @@ use lib.Dec.{ltb, leb, eqb}
 use lib.ListN.{length}
 use Rattle.std.specs.Finite.{nth}
 use Rattle.std.specs.Iters.{counting}
+use Rattle.std.specs.Options.{Cases}
 use Rattle.std.specs.declared.option.Option.{Option}
 use Rattle.std.specs.shelf.Lawful.{all-pass}
 use Rattle.std.specs.shelf.Lists.{All, kept-by}
+use Rattle.circle.specs.Lists.{In, Distinct}
 
 -- h is an id
 abbrev pub is-id : ℕ → Bool
@@ -56,6 +58,10 @@ subset a b = all-pass (member b) (members a)
 -- the lowest id of the set a that is not in the set b
 abbrev pub first-outside : ℕ → ℕ → Option ℕ
 first-outside a b = nth (kept-by (λ h. not (member b h)) (members a)) 0
+
+-- one step through the ids of a set, ascending: its lowest id comes, and those after it are left; or none comes, where the set has none
+abbrev pub Stepped : ℕ → Option ℕ → ℕ → Type 0
+Stepped set r left = Cases r (members set ≡ []) (λ h. members set ≡ h ∷ members left)
 
 -- each number of the list is below all that follow it
 abbrev pub Ascends : List ℕ → Type 0

@@ -4,3 +4,4 @@ pub mod Polynomial
 pub mod Table
 pub mod Denial
 pub mod State
+pub mod Deal

@@ -1,0 +1,2 @@
+-- What the proofs of dealing use.
+pub mod Rolls

@@ -1,0 +1,2 @@
+-- What a proof may know of tables.
+pub mod Grids
