@@ -5,3 +5,4 @@ pub mod Table
 pub mod Denial
 pub mod State
 pub mod Deal
+pub mod Open
