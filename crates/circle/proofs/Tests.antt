@@ -37,6 +37,9 @@ module _ {A : Type 0} (test : A → Bool) where
   each-at (y ∷ ys) zero d all within = and-parts (test y) (each test ys) all .0
   each-at (y ∷ ys) (suc i) d all within = each-at ys i d (and-parts (test y) (each test ys) all .1) (omega arith)
 
+  pub each-read : (xs : List A) (i : ℕ) (x : A) → each test xs ≡ true → i < length xs → x ≡ getD xs i x → test x ≡ true
+  each-read xs i x all within read = ap test read ∙ each-at xs i x all within
+
   pub each-take : (i : ℕ) (xs : List A) → each test xs ≡ true → each test (take i xs) ≡ true
   each-take zero xs all = refl
   each-take (suc i) [] all = refl

@@ -1,7 +1,8 @@
 -- What opening answers, and what it leaves in the key buffer. Assumes nothing.
 use mathlib.Core.Bool.{Bool, true, cond, _&&_, _||_, not}
 use mathlib.Core.List.{List, [], _∷_, map}
-use Prim.Native.Nat.{ℕ}
+use mathlib.Core.Path.{_≡_}
+use Prim.Native.Nat.{ℕ, _≤_}
 use lib.Dec.{eqb, ltb}
 use lib.ListN.{length, getD, take, drop}
 use Rattle.std.specs.Iters.{counting}
@@ -14,7 +15,7 @@ use Rattle.circle.specs.declared.denial.Denial.the-variants.{NoSuchId, Length,
 use Rattle.circle.specs.declared.open.Asked.{Asked}
 use Rattle.circle.specs.declared.open.Asked.the-variants.{Point, Places, Roll, Epoch, OtherId}
 use Rattle.circle.specs.Ids.{member, has-point}
-use Rattle.circle.specs.Lists.{each}
+use Rattle.circle.specs.Lists.{Distinct, each}
 use Rattle.circle.specs.Polynomial.{interpolated}
 use Rattle.circle.specs.State.{Facts}
 
@@ -62,6 +63,14 @@ meets largest (OtherId id) = other-id id
 abbrev pub ids-differ : {K : Type 0} → List (Face K) → Bool
 ids-differ [] = true
 ids-differ (c ∷ cs) = each (other-id (c .id)) cs && ids-differ cs
+
+-- cards, with their ids, that fix a polynomial at each of so many places
+pub record Fixing {K : Type 0} (largest places : ℕ) (ids : List ℕ) (cards : List (Face K)) : Type 0 where
+  pub few : length cards ≤ 32
+  pub same : ids ≡ ids-of cards
+  pub known : each (has-point largest) ids ≡ true
+  pub different : Distinct ids
+  pub long : each (as-long places) cards ≡ true
 
 -- ## The polynomials through cards
 
