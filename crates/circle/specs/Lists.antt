@@ -1,7 +1,6 @@
 -- Lists. Assumes nothing.
 use mathlib.Core.Path.{_≡_}
 use mathlib.Core.Logic.{_≢_, _⊎_}
-use mathlib.Core.Bool.{Bool, true, _&&_}
 use mathlib.Core.List.{List, [], _∷_, _++_}
 use Prim.Native.Nat.{ℕ, _+_}
 use lib.ListN.{take, drop}
@@ -20,8 +19,3 @@ Distinct (x ∷ xs) = All (λ y. x ≢ y) xs × Distinct xs
 -- all but the element at i
 abbrev pub others : {A : Type 0} → List A → ℕ → List A
 others xs i = take i xs ++ drop (i + 1) xs
-
--- each element passes the test
-abbrev pub each : {A : Type 0} → (A → Bool) → List A → Bool
-each test [] = true
-each test (x ∷ xs) = test x && each test xs

@@ -15,7 +15,8 @@ use Rattle.circle.specs.declared.denial.Denial.the-variants.{NoSuchId, Length,
 use Rattle.circle.specs.declared.open.Asked.{Asked}
 use Rattle.circle.specs.declared.open.Asked.the-variants.{Point, Places, Roll, Epoch, OtherId}
 use Rattle.circle.specs.Ids.{member, has-point}
-use Rattle.circle.specs.Lists.{Distinct, each}
+use Rattle.std.specs.shelf.Lawful.{all-pass}
+use Rattle.circle.specs.Lists.{Distinct}
 use Rattle.circle.specs.Polynomial.{interpolated}
 use Rattle.circle.specs.State.{Facts}
 
@@ -62,15 +63,15 @@ meets largest (OtherId id) = other-id id
 -- no id stands on two cards
 abbrev pub ids-differ : {K : Type 0} → List (Face K) → Bool
 ids-differ [] = true
-ids-differ (c ∷ cs) = each (other-id (c .id)) cs && ids-differ cs
+ids-differ (c ∷ cs) = all-pass (other-id (c .id)) cs && ids-differ cs
 
 -- cards, with their ids, that fix a polynomial at each of so many places
 pub record Fixing {K : Type 0} (largest places : ℕ) (ids : List ℕ) (cards : List (Face K)) : Type 0 where
   pub few : length cards ≤ 32
   pub same : ids ≡ ids-of cards
-  pub known : each (has-point largest) ids ≡ true
+  pub known : all-pass (has-point largest) ids ≡ true
   pub different : Distinct ids
-  pub long : each (as-long places) cards ≡ true
+  pub long : all-pass (as-long places) cards ≡ true
 
 -- ## The polynomials through cards
 
@@ -102,18 +103,18 @@ module _ {K : Type 0} (F : Ops K) where
 
       -- at every place
       abbrev pub lies : ℕ → List (Face K) → Face K → Bool
-      lies places first c = each (lies-at first c) (counting 0 places)
+      lies places first c = all-pass (lies-at first c) (counting 0 places)
 
       -- By the field's largest id, the circle, the cards, and the key buffer's length.
       abbrev pub open-answer : ℕ → Facts → List (Face K) → ℕ → Result (Unit {0}) Denial
       open-answer largest c cards key =
-          cond (not (each (id-known largest) cards)) (Err NoSuchId)
-          (cond (not (each (as-long (c .places)) cards) || not (eqb key (c .places))) (Err Length)
-          (cond (not (each (on-roll (c .roll)) cards)) (Err NotOnRoll)
+          cond (not (all-pass (id-known largest) cards)) (Err NoSuchId)
+          (cond (not (all-pass (as-long (c .places)) cards) || not (eqb key (c .places))) (Err Length)
+          (cond (not (all-pass (on-roll (c .roll)) cards)) (Err NotOnRoll)
           (cond (ltb (length cards) (c .threshold)) (Err TooFewCards)
           (cond (not (ids-differ cards)) (Err IdTwice)
-          (cond (not (each (of-epoch (c .epoch)) cards)) (Err OtherEpoch)
-          (cond (not (each (lies (c .places) (take (c .threshold) cards)) (drop (c .threshold) cards))) (Err OffPolynomial)
+          (cond (not (all-pass (of-epoch (c .epoch)) cards)) (Err OtherEpoch)
+          (cond (not (all-pass (lies (c .places) (take (c .threshold) cards)) (drop (c .threshold) cards))) (Err OffPolynomial)
           (Ok tt)))))))
 
     -- the key buffer after opening: a denial leaves it as it was

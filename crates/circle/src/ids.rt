@@ -1,6 +1,6 @@
 // Sets of holder ids, each held in a `u32`: bit h - 1 for the id h, from 1 to 32.
 ghost use mathlib.Core.Path.{_≡_};
-ghost use mathlib.Core.Bool.{not, cond};
+ghost use mathlib.Core.Bool.{not};
 ghost use mathlib.Core.List.{[], _∷_};
 ghost use Prim.Native.Nat.{ℕ, _-_, _^_, _<_};
 ghost use lib.Bits.{bitAnd, bitOr};
@@ -17,7 +17,7 @@ pub fn is_id(id: u8) -> bool
     1 <= id && id <= 32
 }
 
-// The bit of `id`; none where it is no id.
+// The bit of `id`, or 0 where it is no id: what it does to any set.
 fn mask(id: u8) -> u32
     ensures tests { λ r. ⌜ ((set : ℕ) → set < 2 ^ 32 → not (eqb (bitAnd set r) 0) ≡ ids.member set id) ⌝ }
     ensures inserts { λ r. ⌜ ((set : ℕ) → bitOr set r ≡ ids.inserted set id) ⌝ }
@@ -75,7 +75,7 @@ pub fn is_subset(set: u32, of: u32) -> bool
     outside(set, of) == 0
 }
 
-// The lowest id of the set, if it has one; after it in the order come those of the set without it.
+// The lowest id of the set, if it has one. In the order those of the set without it come next.
 fn lowest(set: u32) -> Option<u8>
     ensures { λ r. ⌜ Cases r (ids.members set ≡ []) (λ h. ids.members set ≡ h ∷ ids.members (ids.removed set h)) ⌝ }
 {
@@ -85,13 +85,13 @@ fn lowest(set: u32) -> Option<u8>
     Some(set.trailing_zeros() as u8 + 1)
 }
 
-// The ids of a set, ascending.
+// A walk through the ids of a set, ascending: those still to come.
 #[derive(Drop)]
 pub struct Iter {
     rest: u32,
 }
 
-impl Iterator for Iter as MembersIterator {
+pub impl Iterator for Iter as MembersIterator {
     type Item = u8;
 
     ghost steps = { λ s r t. ids.Stepped (s .rest) r (t .rest) };
@@ -138,4 +138,18 @@ pub fn first_outside(set: u32, of: u32) -> Option<u8>
         }
     }
     None
+}
+
+// The laws of sets of ids, shown once.
+fn laws_shown() -> u8
+    ensures { λ _. ⌜ ids.SetLaws ⌝ }
+{
+    0
+}
+
+// The laws of sets of ids hold.
+pub fn set_laws() -> u8
+    ensures { λ _. ⌜ ids.SetLaws ⌝ }
+{
+    laws_shown()
 }

@@ -4,7 +4,7 @@ ghost use mathlib.Core.Bool.{true, cond};
 ghost use mathlib.Core.List.{map};
 ghost use mathlib.Core.Path.{_≡_};
 ghost use Prim.Native.Nat.{_<_, _≤_};
-ghost use Rattle.circle.specs.Lists.{each};
+ghost use Rattle.std.specs.shelf.Lawful.{all-pass};
 ghost use Rattle.circle.specs.Open.{face, faces, ids-of, id-known, as-long, meets, ids-differ, Fixing, weight-in, shares-at, lies, opened, open-answer, open-key};
 ghost use Rattle.circle.specs.Polynomial.{weighted};
 ghost use Rattle.circle.specs.State.{facts};
@@ -47,7 +47,7 @@ fn meets_one<F: Field>(asked: Asked, card: &Card<'_, F>) -> bool
 
 // Whether each card is as asked.
 fn all_meet<F: Field>(asked: Asked, cards: &[Card<'_, F>]) -> bool
-    ensures { λ r. ⌜ r ≡ each (meets (points .largest) asked) (faces (now (cards .entry))) ⌝ }
+    ensures { λ r. ⌜ r ≡ all-pass (meets (points .largest) asked) (faces (now (cards .entry))) ⌝ }
 {
     for card in cards {
         if !meets_one(asked, card) {
@@ -84,7 +84,7 @@ fn ids_on<F: Field>(cards: &[Card<'_, F>]) -> [u8; 32]
 // The sum of weight times share over the cards, at the place p.
 fn total<F: Field>(weights: &F::Row, cards: &[Card<'_, F>], places: usize, p: usize) -> F
     requires within { ⌜ p < places ⌝ }
-    requires long { ⌜ each (as-long places) (faces (now cards)) ≡ true ⌝ }
+    requires long { ⌜ all-pass (as-long places) (faces (now cards)) ≡ true ⌝ }
     ensures { λ r. ⌜ r ≡ weighted ops (weight-in ops (held (now (weights .entry)))) 0 (shares-at ops p (faces (now (cards .entry)))) ⌝ }
 {
     let mut sum = F::zero();
@@ -115,9 +115,9 @@ fn agrees<F: Field>(ids: &[u8], first: &[Card<'_, F>], card: &Card<'_, F>, place
 // Whether each later card lies on the polynomials through the first ones.
 fn all_agree<F: Field>(ids: &[u8], first: &[Card<'_, F>], later: &[Card<'_, F>], places: usize) -> bool
     requires fixing { ⌜ Fixing (points .largest) places (now ids) (faces (now first)) ⌝ }
-    requires own { ⌜ each (id-known (points .largest)) (faces (now later)) ≡ true ⌝ }
-    requires long { ⌜ each (as-long places) (faces (now later)) ≡ true ⌝ }
-    ensures { λ r. ⌜ r ≡ each (lies ops (points .at) (equality .same) places (faces (now (first .entry)))) (faces (now (later .entry))) ⌝ }
+    requires own { ⌜ all-pass (id-known (points .largest)) (faces (now later)) ≡ true ⌝ }
+    requires long { ⌜ all-pass (as-long places) (faces (now later)) ≡ true ⌝ }
+    ensures { λ r. ⌜ r ≡ all-pass (lies ops (points .at) (equality .same) places (faces (now (first .entry)))) (faces (now (later .entry))) ⌝ }
 {
     for card in later {
         if !agrees(ids, first, card, places) {
@@ -141,9 +141,9 @@ fn recover<F: Field>(ids: &[u8], cards: &[Card<'_, F>], key: &mut [F])
 // Whether the later cards lie on the polynomials through the first ones: if so, writes the key.
 fn settle<F: Field>(first: &[Card<'_, F>], later: &[Card<'_, F>], key: &mut [F]) -> bool
     requires fixing { ⌜ Fixing (points .largest) (length (now key)) (ids-of (faces (now first))) (faces (now first)) ⌝ }
-    requires own { ⌜ each (id-known (points .largest)) (faces (now later)) ≡ true ⌝ }
-    requires long { ⌜ each (as-long (length (now key))) (faces (now later)) ≡ true ⌝ }
-    ensures answer { λ r. ⌜ r ≡ each (lies ops (points .at) (equality .same) (length (now (key .entry))) (faces (now (first .entry)))) (faces (now (later .entry))) ⌝ }
+    requires own { ⌜ all-pass (id-known (points .largest)) (faces (now later)) ≡ true ⌝ }
+    requires long { ⌜ all-pass (as-long (length (now key))) (faces (now later)) ≡ true ⌝ }
+    ensures answer { λ r. ⌜ r ≡ all-pass (lies ops (points .at) (equality .same) (length (now (key .entry))) (faces (now (first .entry)))) (faces (now (later .entry))) ⌝ }
     ensures key { λ r. ⌜ now (key .exit) ≡ cond r (map (opened ops (points .at) (faces (now (first .entry)))) (counting 0 (length (now (key .entry))))) (now (key .entry)) ⌝ }
 {
     let row = ids_on(first);

@@ -5,7 +5,8 @@ ghost use mathlib.Core.List.{map};
 ghost use mathlib.Core.Path.{_≡_};
 ghost use Prim.Native.Nat.{ℕ, _<_, _≤_};
 ghost use Rattle.circle.specs.Ids.{has-point};
-ghost use Rattle.circle.specs.Lists.{Distinct, each};
+ghost use Rattle.circle.specs.Lists.{Distinct};
+ghost use Rattle.std.specs.shelf.Lawful.{all-pass};
 ghost use Rattle.circle.specs.Polynomial.{value, gaps, gaps-beside, constant-of, PolynomialLaws};
 use fields::field::Field;
 
@@ -35,7 +36,7 @@ pub(crate) fn point_of<F: Field>(id: u8) -> F
 
 // The product of z - k over the points k of the ids.
 fn gaps<F: Field>(ids: &[u8], z: F) -> F
-    requires { ⌜ each (has-point (points .largest)) (now ids) ≡ true ⌝ }
+    requires { ⌜ all-pass (has-point (points .largest)) (now ids) ≡ true ⌝ }
     ensures { λ r. ⌜ r ≡ gaps ops (map (points .at) (now (ids .entry))) z ⌝ }
 {
     let mut product = F::one();
@@ -49,7 +50,7 @@ fn gaps<F: Field>(ids: &[u8], z: F) -> F
 // The same over all ids but the one at i.
 fn gaps_beside<F: Field>(ids: &[u8], i: usize, z: F) -> F
     requires within { ⌜ i < length (now ids) ⌝ }
-    requires known { ⌜ each (has-point (points .largest)) (now ids) ≡ true ⌝ }
+    requires known { ⌜ all-pass (has-point (points .largest)) (now ids) ≡ true ⌝ }
     ensures { λ r. ⌜ r ≡ gaps-beside ops (map (points .at) (now (ids .entry))) i z ⌝ }
 {
     let before = &ids[..i];
@@ -71,7 +72,7 @@ fn quotient<F: Field>(x: F, y: F) -> F
 // The constant of the id at i, for the value at z.
 fn constant<F: Field>(ids: &[u8], i: usize, z: F) -> F
     requires within { ⌜ i < length (now ids) ⌝ }
-    requires known { ⌜ each (has-point (points .largest)) (now ids) ≡ true ⌝ }
+    requires known { ⌜ all-pass (has-point (points .largest)) (now ids) ≡ true ⌝ }
     requires different { ⌜ Distinct (now ids) ⌝ }
     ensures { λ r. ⌜ r ≡ constant-of ops (map (points .at) (now (ids .entry))) z i ⌝ }
 {
@@ -82,7 +83,7 @@ fn constant<F: Field>(ids: &[u8], i: usize, z: F) -> F
 // The constants of all the ids, for the value at z: worked out once for every place.
 pub(crate) fn constants<F: Field>(ids: &[u8], z: F) -> F::Row
     requires few { ⌜ length (now ids) ≤ 32 ⌝ }
-    requires known { ⌜ each (has-point (points .largest)) (now ids) ≡ true ⌝ }
+    requires known { ⌜ all-pass (has-point (points .largest)) (now ids) ≡ true ⌝ }
     requires different { ⌜ Distinct (now ids) ⌝ }
     ensures { λ r. ⌜ ((k : ℕ) → k < length (now (ids .entry)) → getD (held r) k (ops .zero) ≡ constant-of ops (map (points .at) (now (ids .entry))) z k) ⌝ }
 {

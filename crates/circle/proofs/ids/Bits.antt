@@ -5,10 +5,9 @@ use Prim.Native.Nat.{ℕ, zero, suc, _+_, _-_, _*_, _/_, _%_, _^_, _≤_, _<_, m
 use native.Mathlib.Nat.{not-suc-le-zero, le-of-suc-le-suc, pow-suc}
 use native.Mathlib.Numerals.{one-add}
 use native.Mathlib.Omega.{arith}
-use lib.Arith.{lt-one}
 use lib.Bits.{bitAnd, and-high, and-step, and-le-l}
 use lib.Count.{ones, ones-step, trailingZeros, under}
-use lib.Pow.{shr-shr}
+use Rattle.std.proofs.shelf.Bits.{pow-pos, shr-shr, shr-split, mod-below}
 
 -- digit i of n, the lowest first
 abbrev pub bit : ℕ → ℕ → ℕ
@@ -42,6 +41,13 @@ bit-past zero zero n h l = omega arith
 bit-past zero (suc i) n h l = bit-past zero i (n / 2) (omega arith) (omega arith)
 bit-past (suc w) zero n h l = absurd (omega arith)
 bit-past (suc w) (suc i) n h l = bit-past w i (n / 2) (half-lt w n h) (le-of-suc-le-suc l)
+
+-- nothing is left past the end
+pub shr-none : (n w : ℕ) → n / 2 ^ w ≡ 0 → n < 2 ^ w
+shr-none n w e =
+    let low : n % 2 ^ w < 2 ^ w = mod-below n (2 ^ w) (pow-pos w) in
+    let none : n / 2 ^ w * 2 ^ w ≡ 0 * 2 ^ w = ap (λ q. q * 2 ^ w) e in
+    omega (arith, shr-split n w)
 
 -- numbers with the same digits are the same
 pub bits-≡ : (w a b : ℕ) → a < 2 ^ w → b < 2 ^ w → ((i : ℕ) → i < w → bit i a ≡ bit i b) → a ≡ b

@@ -1,36 +1,34 @@
 -- The laws of sets of ids. Assumes nothing.
-use mathlib.Core.Path.{_≡_, refl, sym, ap, ap₂, _∙_, subst}
-use mathlib.Core.Logic.{_≢_, _⊎_, inl, inr}
-use mathlib.Core.Bool.{Bool, true, false, cond, not, _&&_, _||_}
+use mathlib.Core.Path.{_≡_, refl, sym, ap, ap₂, _∙_}
+use mathlib.Core.Logic.{_≢_, inl, inr}
+use mathlib.Core.Bool.{true, false, cond, not, _&&_, _||_}
 use mathlib.Core.List.{List, [], _∷_, _++_}
-use Prim.Native.Nat.{ℕ, zero, suc, _+_, _-_, _*_, _/_, _%_, _^_, _<_, _≤_, min}
-use native.Mathlib.Nat.{pow-suc, one-mul, zero-mul}
+use Prim.Native.Nat.{ℕ, zero, suc, _+_, _-_, _/_, _^_, _<_, _≤_}
+use native.Mathlib.Nat.{pow-suc}
 use native.Mathlib.Omega.{arith}
-use lib.Bits.{bitAnd, bitOr, and-le-l, or-add-and}
-use lib.Count.{ones, ones-step, trailingZeros}
-use lib.Dec.{ltb, leb, eqb}
+use lib.Count.{ones, ones-step, ones-le}
+use lib.Dec.{ltb, eqb}
 use lib.ListN.{length}
-
 use Rattle.std.specs.Iters.{counting, yields}
-use Rattle.std.specs.Finite.{nth}
-use Rattle.std.specs.declared.option.Option.{Option}
-use Rattle.std.specs.declared.option.Option.the-variants.{Some}
 use Rattle.std.specs.Orderings.{Decides}
+use Rattle.std.specs.declared.option.Option.{Option}
 use Rattle.std.specs.shelf.Lawful.{all-pass}
-use Rattle.std.specs.shelf.Lists.{All, kept-by}
-use Rattle.std.proofs.shelf.Bits.{pow-pos, pow-below, shr-shr, shr-le, shr-split, mod-below}
-use Rattle.std.proofs.shelf.Elements.{all-kept-by, all-weaker}
+use Rattle.std.specs.shelf.Lists.{kept-by}
 use Rattle.std.proofs.shelf.Adapters.{Road}
+use Rattle.std.proofs.shelf.Bits.{shr-shr, shr-le}
+use Rattle.std.proofs.shelf.Filters.{length-kept-by-both}
 use Rattle.std.proofs.shelf.Roads.{road-from-shown}
-use Rattle.std.proofs.shelf.Tests.{cases-lt, cases-eq, cases-bool, cond-true, cond-false, cond-both, and-left, and-right, and-parts, or-left, not-true, eq-eqb, ne-eqb, eqb-true, and-from, both-ways}
-use Rattle.std.proofs.shelf.Ways.{tells, eqb-tells, decides-like, decides-by-and, same-from-decides}
+use Rattle.std.proofs.shelf.Tests.{cases-lt, cases-bool, both-ways, cond-true, cond-false, cond-both, and-left, and-right, and-parts, or-left, not-true, eq-eqb, eqb-true}
+use Rattle.std.proofs.shelf.Ways.{tells, eqb-tells, decides-like, decides-by-and}
 use Rattle.circle.specs.Ids.{is-id, ids, member, inserted, removed, members, size, within-largest, subset, Stepped, Ascends}
 use Rattle.circle.specs.Lists.{In, Distinct}
-use Rattle.circle.proofs.ids.Bits.{bit, bit-shift, bit-cases, bit-past, bits-≡, bit-add-same, bit-add-other, ones-add, add-lt, apart, bit-shr, bit-and, and-bit, and-not, trailing-set, trailing-clear}
+use Rattle.circle.proofs.ids.Bits.{bit, bit-shift, bit-shr, bit-cases, bit-past, bits-≡, shr-none, bit-add-same, bit-add-other, ones-add, add-lt, apart}
+use Rattle.circle.proofs.Lists.{all-of, all-at}
+use Rattle.circle.proofs.ids.Lists.{ascends-distinct, in-counting, counting-in, counting-ascends, in-kept, kept-in, kept-same, ascends-kept, kept-first}
 
 -- ## A member is a digit
 
-member-bit : (set h : ℕ) → member set h ≡ (ltb 0 h && eqb (bit (h - 1) set) 1)
+pub member-bit : (set h : ℕ) → member set h ≡ (ltb 0 h && eqb (bit (h - 1) set) 1)
 member-bit set h = ap (λ b. ltb 0 h && eqb b 1) (bit-shift (h - 1) set)
 
 pub member-on : (set h : ℕ) → 0 < h → bit (h - 1) set ≡ 1 → member set h ≡ true
@@ -49,6 +47,15 @@ off-member set h p m =
     let t : (ltb 0 h && eqb (bit (h - 1) set) 1) ≡ false = sym (member-bit set h) ∙ m in
     elim (bit-cases (h - 1) set) [ inl e ↦ e | inr e ↦ grind (arith, tells) ]
 
+pub digit-member : (set h : ℕ) → 0 < h → bit (h - 1) set ≡ cond (member set h) 1 0
+digit-member set h p =
+    elim (cases-bool (member set h)) [
+      | inl m ↦ on-member set h m .1 ∙ sym (cond-true _ _ _ m)
+      | inr m ↦ off-member set h p m ∙ sym (cond-false _ _ _ m)
+    ]
+
+-- ## Ids
+
 pub member-zero : (set : ℕ) → member set 0 ≡ false
 member-zero set = refl
 
@@ -63,8 +70,9 @@ pub member-id : (set h : ℕ) → set < 2 ^ 32 → member set h ≡ true → is-
 member-id set h fits m =
     let on = on-member set h m in
     elim (cases-lt 32 h) [
-      inl past ↦ let off = bit-past 32 (h - 1) set fits (omega arith) in absurd (omega (arith, on .1, off))
-    | inr within ↦ bounds-id h (on .0) within ]
+      | inl past ↦ let off = bit-past 32 (h - 1) set fits (omega arith) in absurd (omega (arith, on .1, off))
+      | inr within ↦ bounds-id h (on .0) within
+    ]
 
 pub member-none : (set h : ℕ) → set < 2 ^ 32 → is-id h ≡ false → member set h ≡ false
 member-none set h fits none =
@@ -106,16 +114,19 @@ pub member-inserted : (set h k : ℕ) → is-id h ≡ true → member (inserted 
 member-inserted set h k id =
     let p = id-bounds h id .0 in
     elim (cases-bool (member set h)) [
-      inl m ↦
-        ap (λ s. member s k) (inserted-old set h m)
-        ∙ elim (eqb-tells k h) [
-            inl e ↦ ap (member set) (e .1) ∙ m ∙ sym (or-left _ _ (e .0))
-          | inr e ↦ ap (λ b. b || member set k) (sym (e .0)) ]
-    | inr m ↦
-        ap (λ s. member s k) (inserted-new set h id m)
-        ∙ elim (eqb-tells k h) [
-            inl e ↦ ap (member (set + 2 ^ (h - 1))) (e .1) ∙ member-add-same set h p m ∙ sym (or-left _ _ (e .0))
-          | inr e ↦ member-add-other set h k p (e .1) m ∙ ap (λ b. b || member set k) (sym (e .0)) ] ]
+      | inl m ↦
+          ap (λ s. member s k) (inserted-old set h m)
+          ∙ elim (eqb-tells k h) [
+            | inl e ↦ ap (member set) (e .1) ∙ m ∙ sym (or-left _ _ (e .0))
+            | inr e ↦ ap (λ b. b || member set k) (sym (e .0))
+          ]
+      | inr m ↦
+          ap (λ s. member s k) (inserted-new set h id m)
+          ∙ elim (eqb-tells k h) [
+            | inl e ↦ ap (member (set + 2 ^ (h - 1))) (e .1) ∙ member-add-same set h p m ∙ sym (or-left _ _ (e .0))
+            | inr e ↦ member-add-other set h k p (e .1) m ∙ ap (λ b. b || member set k) (sym (e .0))
+          ]
+    ]
 
 -- what is removed is a member more than what is left
 split : (set h : ℕ) → member set h ≡ true → (set ≡ removed set h + 2 ^ (h - 1)) × (member (removed set h) h ≡ false)
@@ -127,18 +138,21 @@ split set h m =
 pub member-removed : (set h k : ℕ) → member (removed set h) k ≡ (not (eqb k h) && member set k)
 member-removed set h k =
     elim (cases-bool (member set h)) [
-      inl m ↦
-        let two = split set h m in
-        elim (eqb-tells k h) [
-          inl e ↦ ap (member (removed set h)) (e .1) ∙ two .1 ∙ ap (λ b. not b && member set k) (sym (e .0))
-        | inr e ↦
-            sym (member-add-other (removed set h) h k (on-member set h m .0) (e .1) (two .1))
-            ∙ ap (λ s. member s k) (sym (two .0)) ∙ ap (λ b. not b && member set k) (sym (e .0)) ]
-    | inr m ↦
-        ap (λ s. member s k) (removed-none set h m)
-        ∙ elim (eqb-tells k h) [
-            inl e ↦ ap (member set) (e .1) ∙ m ∙ ap (λ b. not b && member set k) (sym (e .0))
-          | inr e ↦ ap (λ b. not b && member set k) (sym (e .0)) ] ]
+      | inl m ↦
+          let two = split set h m in
+          elim (eqb-tells k h) [
+            | inl e ↦ ap (member (removed set h)) (e .1) ∙ two .1 ∙ ap (λ b. not b && member set k) (sym (e .0))
+            | inr e ↦
+                sym (member-add-other (removed set h) h k (on-member set h m .0) (e .1) (two .1))
+                ∙ ap (λ s. member s k) (sym (two .0)) ∙ ap (λ b. not b && member set k) (sym (e .0))
+          ]
+      | inr m ↦
+          ap (λ s. member s k) (removed-none set h m)
+          ∙ elim (eqb-tells k h) [
+            | inl e ↦ ap (member set) (e .1) ∙ m ∙ ap (λ b. not b && member set k) (sym (e .0))
+            | inr e ↦ ap (λ b. not b && member set k) (sym (e .0))
+          ]
+    ]
 
 pub size-inserted : (set h : ℕ) → is-id h ≡ true → member set h ≡ false → size (inserted set h) ≡ size set + 1
 size-inserted set h id m = ap ones (inserted-new set h id m) ∙ ones-add (h - 1) set (off-member set h (id-bounds h id .0) m)
@@ -166,104 +180,12 @@ set-≡ a b fa fb same = bits-≡ 32 a b fa fb digit
   where
     digit : (i : ℕ) → i < 32 → bit i a ≡ bit i b
     digit i l =
-        let back : i + 1 - 1 ≡ i = omega arith in
+        let place : i + 1 - 1 ≡ i = omega arith in
         let e = same (i + 1) (bounds-id (i + 1) (omega arith) (omega arith)) in
-        elim (cases-bool (member a (i + 1))) [
-          inl m ↦
-            let x = on-member a (i + 1) m .1 in
-            let y = on-member b (i + 1) (sym e ∙ m) .1 in
-            ap (λ j. bit j a) (sym back) ∙ x ∙ sym y ∙ ap (λ j. bit j b) back
-        | inr m ↦
-            let x = off-member a (i + 1) (omega arith) m in
-            let y = off-member b (i + 1) (omega arith) (sym e ∙ m) in
-            ap (λ j. bit j a) (sym back) ∙ x ∙ sym y ∙ ap (λ j. bit j b) back ]
+        ap (λ j. bit j a) (sym place) ∙ digit-member a (i + 1) (omega arith) ∙ ap (λ m. cond m 1 0) e
+        ∙ sym (digit-member b (i + 1) (omega arith)) ∙ ap (λ j. bit j b) place
 
--- ## Lists
-
-pub all-in : {A : Type 0} (P : A → Type 0) (xs : List A) (x : A) → All P xs → In x xs → P x
-all-in P [] x a m = absurd m
-all-in P (y ∷ ys) x a (inl e) = subst P (sym e) (a .0)
-all-in P (y ∷ ys) x a (inr m) = all-in P ys x (a .1) m
-
-pub in-all : {A : Type 0} (P : A → Type 0) (xs : List A) → ((x : A) → In x xs → P x) → All P xs
-in-all P [] each = tt
-in-all P (y ∷ ys) each = (each y (inl refl), in-all P ys (λ x m. each x (inr m)))
-
-pub ascends-distinct : (xs : List ℕ) → Ascends xs → Distinct xs
-ascends-distinct [] a = tt
-ascends-distinct (x ∷ xs) a = (all-weaker _ _ (λ y l e. omega arith) xs (a .0), ascends-distinct xs (a .1))
-
-module _ {A : Type 0} (p : A → Bool) where
-  pub in-kept : (xs : List A) (x : A) → In x (kept-by p xs) → In x xs × (p x ≡ true)
-  in-kept [] x m = absurd m
-  in-kept (y ∷ ys) x m = go (p y) refl (in-kept ys x) m
-    where
-      go : (b : Bool) → p y ≡ b → (In x (kept-by p ys) → In x ys × (p x ≡ true)) → In x (cond b (y ∷ kept-by p ys) (kept-by p ys))
-          → In x (y ∷ ys) × (p x ≡ true)
-      go true e rest (inl q) = (inl q, ap p q ∙ e)
-      go true e rest (inr n) = (inr (rest n .0), rest n .1)
-      go false e rest n = (inr (rest n .0), rest n .1)
-
-  pub kept-in : (xs : List A) (x : A) → In x xs → p x ≡ true → In x (kept-by p xs)
-  kept-in [] x m e = absurd m
-  kept-in (y ∷ ys) x (inl q) e = rw (sym (ap p q) ∙ e) (inl q)
-  kept-in (y ∷ ys) x (inr m) e = go (p y) (kept-in ys x m e)
-    where
-      go : (b : Bool) → In x (kept-by p ys) → In x (cond b (y ∷ kept-by p ys) (kept-by p ys))
-      go true r = inr r
-      go false r = r
-
-  pub kept-same : (q : A → Bool) (xs : List A) → ((x : A) → In x xs → p x ≡ q x) → kept-by p xs ≡ kept-by q xs
-  kept-same q [] same = refl
-  kept-same q (x ∷ xs) same =
-      ap₂ (λ b ys. cond b (x ∷ ys) ys) (same x (inl refl)) (kept-same q xs (λ y m. same y (inr m)))
-
-pub ascends-kept : (p : ℕ → Bool) (xs : List ℕ) → Ascends xs → Ascends (kept-by p xs)
-ascends-kept p [] a = tt
-ascends-kept p (x ∷ xs) a = go (p x) (all-kept-by p _ xs (a .0)) (ascends-kept p xs (a .1))
-  where
-    go : (b : Bool) → All (λ y. x < y) (kept-by p xs) → Ascends (kept-by p xs) → Ascends (cond b (x ∷ kept-by p xs) (kept-by p xs))
-    go true l r = (l, r)
-    go false l r = r
-
-pub nth-after : {A : Type 0} (xs ys : List A) (y : A) → nth (xs ++ y ∷ ys) (length xs) ≡ Some y
-nth-after [] ys y = refl
-nth-after (x ∷ xs) ys y = nth-after xs ys y
-
--- p, but not of h
-abbrev pub but : ℕ → (ℕ → Bool) → ℕ → Bool
-but h p k = not (eqb k h) && p k
-
--- the lowest that passes comes first, and then the others that pass
-pub kept-first : (p : ℕ → Bool) (h : ℕ) (xs : List ℕ) → Ascends xs → In h xs → p h ≡ true → ((k : ℕ) → k < h → p k ≡ false)
-    → kept-by p xs ≡ h ∷ kept-by (but h p) xs
-kept-first p h [] a m on below = absurd m
-kept-first p h (x ∷ xs) a (inl e) on below =
-    let rest : kept-by p xs ≡ kept-by (but h p) xs =
-        kept-same p (but h p) xs (λ k m. let l = all-in _ xs k (a .0) m in ap (λ b. not b && p k) (sym (ne-eqb k h (λ q. omega arith)))) in
-    cond-true (p x) (x ∷ kept-by p xs) (kept-by p xs) (sym (ap p e) ∙ on)
-    ∙ ap₂ (λ y ys. y ∷ ys) (sym e) (rest ∙ sym (cond-false _ (x ∷ kept-by (but h p) xs) _ (and-left _ (p x) (ap not (eq-eqb x h (sym e))))))
-kept-first p h (x ∷ xs) a (inr m) on below =
-    let off = below x (all-in _ xs h (a .0) m) in
-    cond-false (p x) (x ∷ kept-by p xs) (kept-by p xs) off ∙ kept-first p h xs (a .1) m on below
-    ∙ ap (λ ys. h ∷ ys) (sym (cond-false _ (x ∷ kept-by (but h p) xs) _ (and-right (not (eqb x h)) _ off)))
-
--- ## The ids
-
-in-counting : (a n x : ℕ) → In x (counting a n) → (a ≤ x) × (x < a + n)
-in-counting a zero x m = absurd m
-in-counting a (suc n) x (inl e) = (omega arith, omega arith)
-in-counting a (suc n) x (inr m) = let r = in-counting (a + 1) n x m in (omega arith, omega arith)
-
-counting-in : (a n x : ℕ) → a ≤ x → x < a + n → In x (counting a n)
-counting-in a zero x l u = absurd (omega arith)
-counting-in a (suc n) x l u =
-    elim (cases-eq x a) [ inl e ↦ inl e | inr ne ↦ inr (counting-in (a + 1) n x (omega arith) (omega arith)) ]
-
-counting-ascends : (a n : ℕ) → Ascends (counting a n)
-counting-ascends a zero = tt
-counting-ascends a (suc n) =
-    (in-all _ (counting (a + 1) n) (λ x m. let l = in-counting (a + 1) n x m .0 in omega arith), counting-ascends (a + 1) n)
+-- ## The list of the ids, and that of the members
 
 pub in-ids : (h : ℕ) → In h ids → is-id h ≡ true
 unfolding ids
@@ -273,11 +195,13 @@ pub ids-in : (h : ℕ) → is-id h ≡ true → In h ids
 unfolding ids
 ids-in h id = let b = id-bounds h id in counting-in 1 32 h (omega arith) (omega arith)
 
+pub ids-length : length ids ≡ 32
+unfolding ids
+ids-length = refl
+
 pub ids-ascend : Ascends ids
 unfolding ids
 ids-ascend = counting-ascends 1 32
-
--- ## Members
 
 pub in-members : (set h : ℕ) → In h (members set) → (is-id h ≡ true) × (member set h ≡ true)
 unfolding members
@@ -294,25 +218,33 @@ members-ascend set = ascends-kept (member set) ids ids-ascend
 pub members-distinct : (set : ℕ) → Distinct (members set)
 members-distinct set = ascends-distinct (members set) (members-ascend set)
 
-ones-zero : ones 0 ≡ 0
+pub size-empty : size 0 ≡ 0
 unfolding ones
-ones-zero = refl
+size-empty = refl
+
+pub size-few : (set : ℕ) → set < 2 ^ 32 → size set ≤ 32
+size-few set fits = ones-le 32 set fits
 
 -- the digits from that of h on
 count-from : (n h set : ℕ) → 0 < h → set / 2 ^ (h - 1) < 2 ^ n → length (kept-by (member set) (counting h n)) ≡ ones (set / 2 ^ (h - 1))
-count-from zero h set p few = let none : set / 2 ^ (h - 1) ≡ 0 = omega arith in sym (ap ones none ∙ ones-zero)
+count-from zero h set p few = let none : set / 2 ^ (h - 1) ≡ 0 = omega arith in sym (ap ones none ∙ size-empty)
 count-from (suc n) h set p few =
     let half : set / 2 ^ (h - 1) / 2 ≡ set / 2 ^ (h + 1 - 1) = shr-shr set (h - 1) 1 ∙ ap (λ k. set / 2 ^ k) (omega arith) in
     let rest = count-from n (h + 1) set (omega arith) (omega (arith, half, pow-suc 2 n)) ∙ ap ones (sym half) in
     let step = ones-step (set / 2 ^ (h - 1)) in
     let digit = bit-shift (h - 1) set in
     elim (cases-bool (member set h)) [
-      inl m ↦ ap length (cond-true _ _ _ m) ∙ omega (arith, on-member set h m .1)
-    | inr m ↦ ap length (cond-false _ _ _ m) ∙ omega (arith, off-member set h p m) ]
+      | inl m ↦ ap length (cond-true _ _ _ m) ∙ omega (arith, on-member set h m .1)
+      | inr m ↦ ap length (cond-false _ _ _ m) ∙ omega (arith, off-member set h p m)
+    ]
 
 pub members-size : (set : ℕ) → set < 2 ^ 32 → length (members set) ≡ size set
 unfolding members ids
 members-size set fits = count-from 32 1 set (omega arith) (omega arith) ∙ ap ones (omega arith)
+
+pub members-few : (set : ℕ) → length (members set) ≤ 32
+unfolding members
+members-few set = omega (arith, ids-length, length-kept-by-both (member set) (λ h. not (member set h)) (λ _. refl) ids)
 
 -- the lowest member comes first, and then those of the set without it
 pub members-first : (set h : ℕ) → is-id h ≡ true → member set h ≡ true → ((k : ℕ) → k < h → member set k ≡ false)
@@ -322,21 +254,13 @@ members-first set h id m below =
     kept-first (member set) h ids ids-ascend (ids-in h id) m below
     ∙ ap (λ ys. h ∷ ys) (kept-same _ _ ids (λ k _. sym (member-removed set h k)))
 
--- as code finds it
-pub members-lowest : (set : ℕ) → set < 2 ^ 32 → 0 < set
-    → members set ≡ (trailingZeros 32 set + 1) ∷ members (removed set (trailingZeros 32 set + 1))
-members-lowest set fits p =
-    let t = trailingZeros 32 set in
-    let on = trailing-set 32 set fits p in
-    let place : t + 1 - 1 ≡ t = omega arith in
-    let m = member-on set (t + 1) (omega arith) (ap (λ i. bit i set) place ∙ on .1) in
-    members-first set (t + 1) (bounds-id (t + 1) (omega arith) (omega arith)) m lower
-  where
-    lower : (k : ℕ) → k < trailingZeros 32 set + 1 → member set k ≡ false
-    lower zero l = member-zero set
-    lower (suc i) l = member-off set (suc i) (trailing-clear 32 (suc i - 1) set (omega arith))
+pub members-empty : members 0 ≡ []
+unfolding members ids
+members-empty = refl
 
--- a walk through the ids of a set, held in states that each have a set left
+-- ## A walk through the members
+
+-- each state of the walk has a set left
 module _ {S : Type 0} (rest : S → ℕ) where
   abbrev pub walk : S → Option ℕ → S → Type 0
   walk s r t = Stepped (rest s) r (rest t)
@@ -350,35 +274,25 @@ module _ {S : Type 0} (rest : S → ℕ) where
   pub members-road : (s : S) → Road walk (λ h. h) s (members (rest s))
   members-road s = road-from-shown walk (λ h. h) (λ t. members (rest t)) (λ t u e. ap length e) (λ t x u e. e) s
 
-pub members-empty : members 0 ≡ []
-unfolding members ids
-members-empty = refl
-
 -- ## Subsets, and sets of few ids
 
 pub subset-decides : (a b : ℕ) → Decides (subset a b) ((h : ℕ) → is-id h ≡ true → member a h ≡ true → member b h ≡ true)
 subset-decides a b =
     decides-like (subset a b)
-    (λ all h id m. all-in _ (members a) h all (members-in a h id m))
-    (λ each. in-all _ (members a) (λ h m. let r = in-members a h m in each h (r .0) (r .1)))
+    (λ all h id m. all-at _ (members a) all h (members-in a h id m))
+    (λ each. all-of _ (members a) (λ h m. let r = in-members a h m in each h (r .0) (r .1)))
     (decides-by-and (member b) (λ h. member b h ≡ true) (all-pass (member b)) (λ h. (λ e. e, λ e. e)) refl (λ _ _. refl) (members a))
 
 pub subset-member : (a b h : ℕ) → a < 2 ^ 32 → subset a b ≡ true → member a h ≡ true → member b h ≡ true
 subset-member a b h fits s m = subset-decides a b .0 s h (member-id a h fits m) m
 
--- a set of ids up to the largest is a number of so many digits
-below : (set k : ℕ) → set / 2 ^ k ≡ 0 → set < 2 ^ k
-below set k e =
-    let low : set % 2 ^ k < 2 ^ k = mod-below set (2 ^ k) (pow-pos k) in
-    let none : set / 2 ^ k * 2 ^ k ≡ 0 * 2 ^ k = ap (λ q. q * 2 ^ k) e in
-    omega (arith, shr-split set k)
-
 pub within-known : (set largest h : ℕ) → within-largest set largest ≡ true → member set h ≡ true → h ≤ largest
 within-known set largest h w m =
     let on = on-member set h m in
     elim (cases-lt largest h) [
-      inl past ↦ absurd (omega (arith, on .1, bit-past largest (h - 1) set (below set largest (eqb-true _ 0 w)) (omega arith)))
-    | inr within ↦ within ]
+      | inl past ↦ absurd (omega (arith, on .1, bit-past largest (h - 1) set (shr-none set largest (eqb-true _ 0 w)) (omega arith)))
+      | inr within ↦ within
+    ]
 
 pub known-within : (set largest : ℕ) → set < 2 ^ 32 → ((h : ℕ) → is-id h ≡ true → member set h ≡ true → h ≤ largest) → within-largest set largest ≡ true
 known-within set largest fits each = eq-eqb _ 0 (bits-≡ 32 _ 0 (omega (arith, shr-le set largest)) (omega arith) digit)
@@ -389,73 +303,12 @@ known-within set largest fits each = eq-eqb _ 0 (bits-≡ 32 _ 0 (omega (arith, 
         let place : largest + i ≡ h - 1 = omega arith in
         bit-shr largest i set
         ∙ elim (bit-cases (largest + i) set) [
-            inl off ↦ off ∙ sym (bit-past 0 i 0 (omega arith) (omega arith))
+          | inl off ↦ off ∙ sym (bit-past 0 i 0 (omega arith) (omega arith))
           | inr on ↦
               let m = member-on set h (omega arith) (ap (λ j. bit j set) (sym place) ∙ on) in
-              absurd (omega (arith, each h (member-id set h fits m) m)) ]
+              absurd (omega (arith, each h (member-id set h fits m) m))
+        ]
 
 -- every set is one of ids up to 32
 pub within-all : (set largest : ℕ) → set < 2 ^ 32 → 32 ≤ largest → within-largest set largest ≡ true
 within-all set largest fits l = known-within set largest fits (λ h id _. omega (arith, id-bounds h id .1))
-
-pub member-and : (a b h : ℕ) → member (bitAnd a b) h ≡ (member a h && member b h)
-member-and a b h =
-    member-bit (bitAnd a b) h ∙ ap (λ d. ltb 0 h && eqb d 1) (bit-and (h - 1) a b)
-    ∙ both (ltb 0 h) (bit (h - 1) a) (bit (h - 1) b) (bit-cases (h - 1) a) (bit-cases (h - 1) b)
-    ∙ sym (ap₂ (λ x y. x && y) (member-bit a h) (member-bit b h))
-  where
-    both : (t : Bool) (x y : ℕ) → (x ≡ 0) ⊎ (x ≡ 1) → (y ≡ 0) ⊎ (y ≡ 1) → (t && eqb (min x y) 1) ≡ ((t && eqb x 1) && (t && eqb y 1))
-    both t x y p q = grind (arith, tells)
-
--- ## As code tests and changes a set: by the mask of one id, or of a set
-
-masked : (set h : ℕ) → 0 < h
-    → ((member set h ≡ true) × (bitAnd set (2 ^ (h - 1)) ≡ 2 ^ (h - 1))) ⊎ ((member set h ≡ false) × (bitAnd set (2 ^ (h - 1)) ≡ 0))
-masked set h p =
-    let e = and-bit (h - 1) set in
-    elim (bit-cases (h - 1) set) [
-      inl off ↦ inr (member-off set h off, e ∙ ap (λ d. d * 2 ^ (h - 1)) off ∙ zero-mul (2 ^ (h - 1)))
-    | inr on ↦ inl (member-on set h p on, e ∙ ap (λ d. d * 2 ^ (h - 1)) on ∙ one-mul (2 ^ (h - 1))) ]
-
-pub member-mask : (set h : ℕ) → 0 < h → not (eqb (bitAnd set (2 ^ (h - 1))) 0) ≡ member set h
-member-mask set h p =
-    elim (masked set h p) [
-      inl on ↦ ap not (ne-eqb _ 0 (λ z. omega (arith, z, on .1, pow-pos (h - 1)))) ∙ sym (on .0)
-    | inr off ↦ ap not (eq-eqb _ 0 (off .1)) ∙ sym (off .0) ]
-
-pub inserted-mask : (set h : ℕ) → is-id h ≡ true → bitOr set (2 ^ (h - 1)) ≡ inserted set h
-inserted-mask set h id =
-    let sum = or-add-and set (2 ^ (h - 1)) in
-    elim (masked set h (id-bounds h id .0)) [
-      inl on ↦ omega (arith, on .1, inserted-old set h (on .0))
-    | inr off ↦ omega (arith, off .1, inserted-new set h id (off .0)) ]
-
-pub removed-mask : (set h : ℕ) → set < 2 ^ 32 → is-id h ≡ true → bitAnd set (2 ^ 32 - 1 - 2 ^ (h - 1)) ≡ removed set h
-removed-mask set h fits id =
-    let b = id-bounds h id in
-    let sum = and-not 32 set (2 ^ (h - 1)) fits (pow-below (h - 1) 32 (omega arith)) in
-    elim (masked set h (b .0)) [
-      inl on ↦ omega (arith, on .1, removed-old set h (on .0))
-    | inr off ↦ omega (arith, off .1, removed-none set h (off .0)) ]
-
-pub subset-mask : (a b : ℕ) → a < 2 ^ 32 → b < 2 ^ 32 → eqb (bitAnd a (2 ^ 32 - 1 - b)) 0 ≡ subset a b
-subset-mask a b fa fb = same-from-decides _ (subset a b) (forth, back) (subset-decides a b)
-  where
-    sum : bitAnd a b + bitAnd a (2 ^ 32 - 1 - b) ≡ a
-    sum = and-not 32 a b fa fb
-
-    forth : eqb (bitAnd a (2 ^ 32 - 1 - b)) 0 ≡ true → (h : ℕ) → is-id h ≡ true → member a h ≡ true → member b h ≡ true
-    forth e h id m =
-        let all : bitAnd a b ≡ a = omega (arith, sum, eqb-true _ 0 e) in
-        and-parts (member a h) (member b h) (sym (member-and a b h) ∙ ap (λ s. member s h) all ∙ m) .1
-
-    back : ((h : ℕ) → is-id h ≡ true → member a h ≡ true → member b h ≡ true) → eqb (bitAnd a (2 ^ 32 - 1 - b)) 0 ≡ true
-    back each =
-        let all : bitAnd a b ≡ a = set-≡ (bitAnd a b) a (omega (arith, and-le-l a b)) fa (λ h id. member-and a b h ∙ kept h id) in
-        eq-eqb _ 0 (omega (arith, sum))
-      where
-        kept : (h : ℕ) → is-id h ≡ true → (member a h && member b h) ≡ member a h
-        kept h id =
-            elim (cases-bool (member a h)) [
-              inl m ↦ and-from _ _ m (each h id m) ∙ sym m
-            | inr m ↦ and-left _ (member b h) m ∙ sym m ]

@@ -10,7 +10,8 @@ use lib.ListN.{length, getD, take, drop, length-take}
 use Rattle.std.specs.shelf.Lists.{All}
 use Rattle.std.proofs.shelf.Lists.{at-drop-more, at-drop-all, getD-map, length-map}
 use Rattle.std.proofs.shelf.Tests.{and-parts, and-from, eqb-true, eqb-false, not-true}
-use Rattle.circle.specs.Lists.{Distinct, each}
+use Rattle.std.specs.shelf.Lawful.{all-pass}
+use Rattle.circle.specs.Lists.{Distinct}
 use Rattle.fields.specs.Field.{Ops}
 use Rattle.circle.specs.Ids.{has-point}
 use Rattle.circle.specs.Open.{Face, face, faces, ids-of, id-known, as-long, other-id, ids-differ, Fixing, share-at, shares-at, weight-in, column}
@@ -40,16 +41,16 @@ module _ {K : Type 0} (cards : List (Card K)) (i : ℕ) (within : i < length car
 
 module _ {K : Type 0} (cs : List (Face K)) (i : ℕ) where
   differ-step : (x : Face K) → i < length cs → x ≡ getD cs i x
-      → ids-differ (drop i cs) ≡ (each (other-id (x .id)) (drop (i + 1) cs) && ids-differ (drop (i + 1) cs))
+      → ids-differ (drop i cs) ≡ (all-pass (other-id (x .id)) (drop (i + 1) cs) && ids-differ (drop (i + 1) cs))
   differ-step x within read =
       at-drop-more (λ r. ids-differ r) cs i x within
-      ∙ ap (λ (y : Face K). each (other-id (y .id)) (drop (i + 1) cs) && ids-differ (drop (i + 1) cs)) (sym read)
+      ∙ ap (λ (y : Face K). all-pass (other-id (y .id)) (drop (i + 1) cs) && ids-differ (drop (i + 1) cs)) (sym read)
 
-  pub differ-fails : (x : Face K) → i < length cs → x ≡ getD cs i x → each (other-id (x .id)) (drop (i + 1) cs) ≡ false
+  pub differ-fails : (x : Face K) → i < length cs → x ≡ getD cs i x → all-pass (other-id (x .id)) (drop (i + 1) cs) ≡ false
       → ids-differ (drop i cs) ≡ ids-differ cs → false ≡ ids-differ cs
   differ-fails x within read fails so-far = sym (differ-step x within read ∙ ap (λ b. b && ids-differ (drop (i + 1) cs)) fails) ∙ so-far
 
-  pub differ-goes-on : (x : Face K) → i < length cs → x ≡ getD cs i x → each (other-id (x .id)) (drop (i + 1) cs) ≡ true
+  pub differ-goes-on : (x : Face K) → i < length cs → x ≡ getD cs i x → all-pass (other-id (x .id)) (drop (i + 1) cs) ≡ true
       → ids-differ (drop i cs) ≡ ids-differ cs → ids-differ (drop (i + 1) cs) ≡ ids-differ cs
   differ-goes-on x within read passes so-far = sym (differ-step x within read ∙ ap (λ b. b && ids-differ (drop (i + 1) cs)) passes) ∙ so-far
 
@@ -60,21 +61,21 @@ pub differ-take : {K : Type 0} (i : ℕ) (cs : List (Face K)) → ids-differ cs 
 differ-take zero cs all = refl
 differ-take (suc i) [] all = refl
 differ-take (suc i) (x ∷ cs) all =
-    let parts = and-parts (each (other-id (x .id)) cs) (ids-differ cs) all in
-    and-from (each (other-id (x .id)) (take i cs)) (ids-differ (take i cs))
+    let parts = and-parts (all-pass (other-id (x .id)) cs) (ids-differ cs) all in
+    and-from (all-pass (other-id (x .id)) (take i cs)) (ids-differ (take i cs))
     (each-take (other-id (x .id)) i cs (parts .0)) (differ-take i cs (parts .1))
 
 -- cards that differ have ids that differ
-others-differ : {K : Type 0} (id : ℕ) (cs : List (Face K)) → each (other-id id) cs ≡ true → All (λ k. id ≢ k) (ids-of cs)
+others-differ : {K : Type 0} (id : ℕ) (cs : List (Face K)) → all-pass (other-id id) cs ≡ true → All (λ k. id ≢ k) (ids-of cs)
 others-differ id [] all = tt
 others-differ id (c ∷ cs) all =
-    let parts = and-parts (other-id id c) (each (other-id id) cs) all in
+    let parts = and-parts (other-id id c) (all-pass (other-id id) cs) all in
     ((λ e. eqb-false (c .id) id (not-true (eqb (c .id) id) (parts .0)) (sym e)), others-differ id cs (parts .1))
 
 pub distinct-ids : {K : Type 0} (cs : List (Face K)) → ids-differ cs ≡ true → Distinct (ids-of cs)
 distinct-ids [] all = tt
 distinct-ids (c ∷ cs) all =
-    let parts = and-parts (each (other-id (c .id)) cs) (ids-differ cs) all in
+    let parts = and-parts (all-pass (other-id (c .id)) cs) (ids-differ cs) all in
     (others-differ (c .id) cs (parts .0), distinct-ids cs (parts .1))
 
 -- ## Lagrange's sum over cards
@@ -117,13 +118,13 @@ share-within places p c less long = omega (arith, eqb-true (length (c .shares)) 
 pub fixing-few : {K : Type 0} {largest places : ℕ} {ids : List ℕ} {cards : List (Face K)} → Fixing largest places ids cards → length ids ≤ 32
 fixing-few {K} {largest} {places} {ids} {cards} fixing = omega (arith, fixing .few, ap length (fixing .same), length-map cards (λ (c : Face K). c .id))
 
-ids-known : {K : Type 0} (largest : ℕ) (cs : List (Face K)) → each (has-point largest) (ids-of cs) ≡ each (id-known largest) cs
+ids-known : {K : Type 0} (largest : ℕ) (cs : List (Face K)) → all-pass (has-point largest) (ids-of cs) ≡ all-pass (id-known largest) cs
 ids-known largest [] = refl
 ids-known largest (c ∷ cs) = ap (λ b. has-point largest (c .id) && b) (ids-known largest cs)
 
 -- the first t of cards that are in order fix a polynomial
-pub fixing-first : {K : Type 0} (largest places t : ℕ) (cs : List (Face K)) → t ≤ 32 → each (id-known largest) cs ≡ true
-    → each (as-long places) cs ≡ true → ids-differ cs ≡ true → Fixing largest places (ids-of (take t cs)) (take t cs)
+pub fixing-first : {K : Type 0} (largest places t : ℕ) (cs : List (Face K)) → t ≤ 32 → all-pass (id-known largest) cs ≡ true
+    → all-pass (as-long places) cs ≡ true → ids-differ cs ≡ true → Fixing largest places (ids-of (take t cs)) (take t cs)
 fixing-first largest places t cs few known long differ = record {
   few = omega (arith, length-take t cs);
   same = refl;

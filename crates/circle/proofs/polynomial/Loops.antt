@@ -12,7 +12,8 @@ use Rattle.std.proofs.shelf.Lists.{at-drop-more, getD-map, length-map, take-map
 use Rattle.std.proofs.shelf.Tests.{and-parts, leb-true}
 use Rattle.fields.specs.Field.{Ops, FieldLaws, Points, sub}
 use Rattle.circle.specs.Ids.{has-point}
-use Rattle.circle.specs.Lists.{Distinct, each, others}
+use Rattle.std.specs.shelf.Lawful.{all-pass}
+use Rattle.circle.specs.Lists.{Distinct, others}
 use Rattle.circle.specs.Polynomial.{eval, gaps, gaps-beside, constant, constant-of}
 use Rattle.circle.proofs.polynomial.ConstantLaws.{constant-by-gaps}
 
@@ -39,24 +40,24 @@ module _ {K : Type 0} {F : Ops K} (m : Points F) where
       let parts = and-parts (leb 1 h) (leb h (m .largest)) known in
       (leb-true 1 h (parts .0), leb-true h (m .largest) (parts .1))
 
-  apart-from : (h : ℕ) → has-point (m .largest) h ≡ true → (ids : List ℕ) → each (has-point (m .largest)) ids ≡ true
+  apart-from : (h : ℕ) → has-point (m .largest) h ≡ true → (ids : List ℕ) → all-pass (has-point (m .largest)) ids ≡ true
       → All (λ k. h ≢ k) ids → All (λ y. m .at h ≢ y) (map (m .at) ids)
   apart-from h own [] known differ = tt
   apart-from h own (k ∷ ids) known differ =
-      let parts = and-parts (has-point (m .largest) k) (each (has-point (m .largest)) ids) known in
+      let parts = and-parts (has-point (m .largest) k) (all-pass (has-point (m .largest)) ids) known in
       let a = point-known h own in
       let b = point-known k (parts .0) in
       ((λ e. differ .0 (m .apart h k (a .0) (a .1) (b .0) (b .1) e)), apart-from h own ids (parts .1) (differ .1))
 
-  pub points-differ : (ids : List ℕ) → each (has-point (m .largest)) ids ≡ true → Distinct ids → Distinct (map (m .at) ids)
+  pub points-differ : (ids : List ℕ) → all-pass (has-point (m .largest)) ids ≡ true → Distinct ids → Distinct (map (m .at) ids)
   points-differ [] known differ = tt
   points-differ (h ∷ ids) known differ =
-      let parts = and-parts (has-point (m .largest) h) (each (has-point (m .largest)) ids) known in
+      let parts = and-parts (has-point (m .largest) h) (all-pass (has-point (m .largest)) ids) known in
       (apart-from h (parts .0) ids (parts .1) (differ .0), points-differ ids (parts .1) (differ .1))
 
 -- the constant of an id, by one inverse
 pub constant-met : {K : Type 0} {F : Ops K} (laws : FieldLaws F) (m : Points F) (ids : List ℕ) (i : ℕ) (z s : K) → i < length ids
-    → each (has-point (m .largest)) ids ≡ true → Distinct ids → s ≡ m .at (getD ids i 0)
+    → all-pass (has-point (m .largest)) ids ≡ true → Distinct ids → s ≡ m .at (getD ids i 0)
     → (gaps-beside F (map (m .at) ids) i s ≢ F .zero)
     × (constant-of F (map (m .at) ids) z i ≡ F .mul (gaps-beside F (map (m .at) ids) i z) (F .inv (gaps-beside F (map (m .at) ids) i s)))
 constant-met {K} {F} laws m ids i z s within known differ at =

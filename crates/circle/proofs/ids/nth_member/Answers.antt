@@ -6,7 +6,8 @@ use Prim.Native.Nat.{_≤_}
 use Rattle.std.specs.Finite.{nth}
 use Rattle.std.proofs.shelf.Maps.{nth-past}
 use Rattle.circle.specs.Ids.{members}
-use Rattle.circle.proofs.ids.Laws.{visited, nth-after}
+use Rattle.circle.proofs.ids.Laws.{visited}
+use Rattle.circle.proofs.ids.Lists.{nth-after}
 use Rattle.circle.proofs.ids.nth_member.Needs as need
 
 pub returns-then-passed-k : need.returns-then-passed-k

@@ -1,5 +1,5 @@
 use native.Mathlib.Omega.{arith}
-use Rattle.circle.proofs.ids.Laws.{subset-mask}
+use Rattle.circle.proofs.ids.Masks.{subset-mask}
 use Rattle.circle.proofs.ids.outside.Needs as need
 
 pub returns : need.returns

@@ -2,7 +2,7 @@ use mathlib.Core.Path.{sym, ap, _∙_}
 use Prim.Native.Nat.{_+_}
 use native.Mathlib.Omega.{arith}
 use Rattle.std.proofs.shelf.Lists.{length-map, drop-map, take-rest}
-use Rattle.circle.specs.Lists.{each}
+use Rattle.std.specs.shelf.Lawful.{all-pass}
 use Rattle.circle.specs.Open.{face, faces, other-id}
 use Rattle.circle.proofs.open.Cards.{face-within, face-read, differ-fails, differ-goes-on, differ-ends}
 use Rattle.circle.proofs.open.all_differ.Needs as need
@@ -13,7 +13,7 @@ returns-then-not-all-meet g c =
     let i = c .loop-i .i in
     let card = c .index-cards-i .result in
     let within = c .loop-i-test .taken in
-    let rest = ap (each (other-id (card .id))) (drop-map face (i + 1) cards) in
+    let rest = ap (all-pass (other-id (card .id))) (drop-map face (i + 1) cards) in
     differ-fails (faces cards) i (face card) (face-within cards i within) (face-read cards i within card (c .index-cards-i .is))
     (rest ∙ sym (simp take-rest at (c .all-meet .ensures)) ∙ c .if-not-all-meet .taken) (c .loop-i .inv)
 
@@ -23,7 +23,7 @@ loop-i-again g c =
     let i = c .loop-i .i in
     let card = c .index-cards-i .result in
     let within = c .loop-i-test .taken in
-    let rest = ap (each (other-id (card .id))) (drop-map face (i + 1) cards) in
+    let rest = ap (all-pass (other-id (card .id))) (drop-map face (i + 1) cards) in
     differ-goes-on (faces cards) i (face card) (face-within cards i within) (face-read cards i within card (c .index-cards-i .is))
     (rest ∙ sym (simp take-rest at (c .all-meet .ensures)) ∙ c .if-not-all-meet .left) (c .loop-i .inv)
 

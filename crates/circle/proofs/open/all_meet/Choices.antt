@@ -1,10 +1,10 @@
 use mathlib.Core.Path.{_≡_}
 use lib.ListN.{drop}
-use Rattle.circle.specs.Lists.{each}
+use Rattle.std.specs.shelf.Lawful.{all-pass}
 use Rattle.circle.specs.Open.{faces, meets}
 use Rattle.circle.proofs.open.all_meet.Given as given
 
 abbrev pub Inv-loop-card : given.InvT-loop-card
 Inv-loop-card g l =
     let test = meets (g .F·Field .points .largest) (l .asked) in
-    each test (drop (l .card-index) (faces (l .cards))) ≡ each test (faces (l .cards))
+    all-pass test (drop (l .card-index) (faces (l .cards))) ≡ all-pass test (faces (l .cards))

@@ -8,7 +8,7 @@ use lib.Count.{ones-le}
 use lib.ListN.{length, take, drop}
 use Rattle.std.specs.Iters.{counting}
 use Rattle.std.proofs.shelf.Lists.{length-map, take-map, drop-map, take-rest}
-use Rattle.circle.specs.Lists.{each}
+use Rattle.std.specs.shelf.Lawful.{all-pass}
 use Rattle.circle.specs.Open.{face, faces, ids-of, id-known, as-long, Fixing, lies, opened}
 use Rattle.circle.proofs.Tests.{each-drop}
 use Rattle.circle.proofs.open.Cards.{fixing-first}
@@ -35,14 +35,14 @@ settle-requires g c κs =
     let largest = g .F·Field .points .largest in
     let n = length (c .args .key .now) in
     let known = sym (c .all-meet .ensures) ∙ c .if-not-all-meet .left in
-    let long : each (as-long n) (faces cards) ≡ true =
-    ap (λ k. each (as-long k) (faces cards)) (c .if-key-places .left) ∙ sym (c .all-meet-2 .ensures) ∙ c .if-not-all-meet-2 .left in
+    let long : all-pass (as-long n) (faces cards) ≡ true =
+    ap (λ k. all-pass (as-long k) (faces cards)) (c .if-key-places .left) ∙ sym (c .all-meet-2 .ensures) ∙ c .if-not-all-meet-2 .left in
     let differ = sym (c .all-differ .ensures) ∙ c .if-not-all-differ .left in
     let few : t ≤ 32 = omega (arith, circle .high, ones-le 32 (circle .roll) (search needs)) in
     record {
       fixing = subst (λ cs. Fixing largest n (ids-of cs) cs) (take-map face t cards) (fixing-first largest n t (faces cards) few known long differ);
-      own = simp take-rest (ap (each (id-known largest)) (sym (drop-map face t cards)) ∙ each-drop (id-known largest) t (faces cards) known);
-      long = simp take-rest (ap (each (as-long n)) (sym (drop-map face t cards)) ∙ each-drop (as-long n) t (faces cards) long);
+      own = simp take-rest (ap (all-pass (id-known largest)) (sym (drop-map face t cards)) ∙ each-drop (id-known largest) t (faces cards) known);
+      long = simp take-rest (ap (all-pass (as-long n)) (sym (drop-map face t cards)) ∙ each-drop (as-long n) t (faces cards) long);
     }
 
 -- ## The answer
@@ -54,9 +54,9 @@ returns-then-not-settle g c =
     let cards = c .args .cards .now in
     let long = length-map cards (λ x. face x) in
     let test = lies (m .ops) (m .points .at) (m .equality .same) in
-    let off : each (test (c .args .circle .now .places) (take t (faces cards))) (drop t (faces cards)) ≡ false =
-    ap₂ (λ a b. each (test (c .args .circle .now .places) a) b) (take-map face t cards) (drop-map face t cards)
-    ∙ ap (λ n. each (test n (faces (take t cards))) (faces (drop t cards))) (sym (c .if-key-places .left))
+    let off : all-pass (test (c .args .circle .now .places) (take t (faces cards))) (drop t (faces cards)) ≡ false =
+    ap₂ (λ a b. all-pass (test (c .args .circle .now .places) a) b) (take-map face t cards) (drop-map face t cards)
+    ∙ ap (λ n. all-pass (test n (faces (take t cards))) (faces (drop t cards))) (sym (c .if-key-places .left))
     ∙ sym (simp take-rest at (c .settle .ensures .answer))
     ∙ c .if-not-settle .taken in
     record { answer = search needs; key = search needs }
@@ -68,9 +68,9 @@ returns g c =
     let cards = c .args .cards .now in
     let long = length-map cards (λ x. face x) in
     let test = lies (m .ops) (m .points .at) (m .equality .same) in
-    let on : each (test (c .args .circle .now .places) (take t (faces cards))) (drop t (faces cards)) ≡ true =
-    ap₂ (λ a b. each (test (c .args .circle .now .places) a) b) (take-map face t cards) (drop-map face t cards)
-    ∙ ap (λ n. each (test n (faces (take t cards))) (faces (drop t cards))) (sym (c .if-key-places .left))
+    let on : all-pass (test (c .args .circle .now .places) (take t (faces cards))) (drop t (faces cards)) ≡ true =
+    ap₂ (λ a b. all-pass (test (c .args .circle .now .places) a) b) (take-map face t cards) (drop-map face t cards)
+    ∙ ap (λ n. all-pass (test n (faces (take t cards))) (faces (drop t cards))) (sym (c .if-key-places .left))
     ∙ sym (simp take-rest at (c .settle .ensures .answer))
     ∙ c .if-not-settle .left in
     record {

@@ -1,7 +1,7 @@
 use mathlib.Core.Path.{_≡_, sym, ap, _∙_}
 use native.Mathlib.Omega.{arith}
 use lib.ListN.{length, set}
-use Rattle.circle.specs.Lists.{each}
+use Rattle.std.specs.shelf.Lawful.{all-pass}
 use Rattle.circle.specs.Open.{faces, as-long, opened}
 use Rattle.circle.proofs.open.Cards.{fixing-few, sum-of}
 use Rattle.circle.proofs.table.Grids.{filled-none, filled-more, filled-whole}
@@ -16,7 +16,7 @@ loop-p-holds g c = sym (filled-none _ (c .args .key .now))
 pub total-requires : need.total-requires
 total-requires g c κs =
     let long : length (c .loop-p .key) ≡ length (c .args .key .now) = omega arith in
-    record { within = omega arith; long = ap (λ n. each (as-long n) (faces (c .args .cards .now))) long ∙ c .pre .long }
+    record { within = omega arith; long = ap (λ n. all-pass (as-long n) (faces (c .args .cards .now))) long ∙ c .pre .long }
 
 pub loop-p-again : need.loop-p-again
 loop-p-again g c =
