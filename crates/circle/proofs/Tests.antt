@@ -9,6 +9,7 @@ use Rattle.std.specs.Iters.{counting}
 use Rattle.std.proofs.shelf.Lists.{at-drop-more, at-drop-all}
 use Rattle.std.proofs.shelf.Tests.{and-parts, and-from}
 use Rattle.std.specs.shelf.Lawful.{all-pass}
+use Rattle.std.specs.shelf.Lists.{All}
 
 module _ {A : Type 0} (test : A → Bool) where
   -- ## A loop over the list xs, at the turn i
@@ -51,6 +52,11 @@ module _ {A : Type 0} (test : A → Bool) where
   each-drop zero xs all = all
   each-drop (suc i) [] all = refl
   each-drop (suc i) (x ∷ xs) all = each-drop i xs (and-parts (test x) (all-pass test xs) all .1)
+
+-- a test that holds of whatever has a property
+pub pass-all : {A : Type 0} (P : A → Type 0) (test : A → Bool) → ((x : A) → P x → test x ≡ true) → (xs : List A) → All P xs → all-pass test xs ≡ true
+pass-all P test holds [] all = refl
+pass-all P test holds (x ∷ xs) all = and-from (test x) (all-pass test xs) (holds x (all .0)) (pass-all P test holds xs (all .1))
 
 -- a weaker test
 pub each-also : {A : Type 0} (test other : A → Bool) → ((x : A) → test x ≡ true → other x ≡ true) → (xs : List A) → all-pass test xs ≡ true → all-pass other xs ≡ true

@@ -6,3 +6,4 @@ pub mod Denial
 pub mod State
 pub mod Deal
 pub mod Open
+pub mod DealLaws

@@ -81,7 +81,7 @@ distinct-ids (c ∷ cs) all =
 -- ## Lagrange's sum over cards
 
 module _ {K : Type 0} (F : Ops K) (at : ℕ → K) (p : ℕ) where
-  column-points : (cs : List (Face K)) → points (column F at p cs) ≡ map at (ids-of cs)
+  pub column-points : (cs : List (Face K)) → points (column F at p cs) ≡ map at (ids-of cs)
   column-points [] = refl
   column-points (c ∷ cs) = ap (λ r. at (c .id) ∷ r) (column-points cs)
 
@@ -118,7 +118,7 @@ share-within places p c less long = omega (arith, eqb-true (length (c .shares)) 
 pub fixing-few : {K : Type 0} {largest places : ℕ} {ids : List ℕ} {cards : List (Face K)} → Fixing largest places ids cards → length ids ≤ 32
 fixing-few {K} {largest} {places} {ids} {cards} fixing = omega (arith, fixing .few, ap length (fixing .same), length-map cards (λ (c : Face K). c .id))
 
-ids-known : {K : Type 0} (largest : ℕ) (cs : List (Face K)) → all-pass (has-point largest) (ids-of cs) ≡ all-pass (id-known largest) cs
+pub ids-known : {K : Type 0} (largest : ℕ) (cs : List (Face K)) → all-pass (has-point largest) (ids-of cs) ≡ all-pass (id-known largest) cs
 ids-known largest [] = refl
 ids-known largest (c ∷ cs) = ap (λ b. has-point largest (c .id) && b) (ids-known largest cs)
 
