@@ -7,3 +7,4 @@ pub mod State
 pub mod Deal
 pub mod Open
 pub mod DealLaws
+pub mod Examples

@@ -2,6 +2,7 @@
 pub mod card;
 pub mod deal;
 pub mod denial;
+pub mod examples;
 pub mod ids;
 pub mod open;
 pub mod polynomial;
