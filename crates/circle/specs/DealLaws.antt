@@ -1,13 +1,13 @@
 -- What dealing comes to: the key opens again, and fewer holders than the threshold learn nothing of it. Assumes nothing.
 use mathlib.Core.Path.{_≡_}
 use mathlib.Core.Bool.{Bool, true}
-use mathlib.Core.List.{List, [], _∷_, map}
+use mathlib.Core.List.{List, [], _∷_}
 use Prim.Native.Nat.{ℕ, _-_, _*_, _^_, _<_, _≤_}
 use lib.ListN.{length}
-use Rattle.std.specs.Iters.{counting}
 use Rattle.std.specs.declared.result.Result.the-variants.{Ok}
 use Rattle.std.specs.shelf.Lists.{All}
 use Rattle.fields.specs.Field.{Ops, Points}
+use Rattle.circle.specs.Card.{shares-of}
 use Rattle.circle.specs.Deal.{deal-answer, deal-table}
 use Rattle.circle.specs.Ids.{member, size}
 use Rattle.circle.specs.Open.{Face, ids-differ, open-answer, open-key}
@@ -25,7 +25,7 @@ module _ {K : Type 0} (F : Ops K) where
   abbrev pub Dealt-card : Facts → List K → Face K → Type 0
   Dealt-card c table card =
       (member (c .roll) (card .id) ≡ true) × (card .epoch ≡ 0)
-      × (card .shares ≡ map (λ p. entry (F .zero) table p (card .id)) (counting 0 (c .places)))
+      × (card .shares ≡ shares-of F table (card .id) (c .places))
 
   module _ (m : Points F) where
     -- For every dealing that is answered with a circle: any cards as dealt, of different holders and no fewer than the

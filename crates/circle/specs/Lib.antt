@@ -5,6 +5,7 @@ pub mod Table
 pub mod Denial
 pub mod State
 pub mod Deal
+pub mod Card
 pub mod Open
 pub mod DealLaws
 pub mod Examples

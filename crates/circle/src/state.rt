@@ -1,5 +1,6 @@
 // What a circle is. The struct stands alone, since files of specs name it.
 ghost use lib.Count.{ones};
+ghost use mathlib.Core.Path.{_≡_};
 ghost use Prim.Native.Nat.{_≤_};
 use std::marker::PhantomData;
 
@@ -17,4 +18,34 @@ pub struct Circle<F> {
     ghost low: { 2 ≤ threshold },
     ghost high: { threshold ≤ ones roll },
     ghost last: { epoch ≤ 9999 },
+}
+
+impl<F> Circle<F> {
+    // The set of the holders' ids.
+    pub fn roll(&self) -> u32
+        ensures { λ r. ⌜ r ≡ now (self .entry) .roll ⌝ }
+    {
+        self.roll
+    }
+
+    // How many shares open the key.
+    pub fn threshold(&self) -> u16
+        ensures { λ r. ⌜ r ≡ now (self .entry) .threshold ⌝ }
+    {
+        self.threshold
+    }
+
+    // How often the shares were renewed.
+    pub fn epoch(&self) -> u16
+        ensures { λ r. ⌜ r ≡ now (self .entry) .epoch ⌝ }
+    {
+        self.epoch
+    }
+
+    // How many elements the key has.
+    pub fn places(&self) -> u16
+        ensures { λ r. ⌜ r ≡ now (self .entry) .places ⌝ }
+    {
+        self.places
+    }
 }
