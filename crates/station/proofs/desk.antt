@@ -1,0 +1,2 @@
+-- What the proofs of the desk's steps use.
+pub mod Lists

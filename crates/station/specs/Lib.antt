@@ -1,0 +1,5 @@
+pub mod Grammar
+pub mod Line
+pub mod Script
+pub mod Spelling
+pub mod Desk
