@@ -1,12 +1,15 @@
 // The steps at the desk of a field that is named.
-ghost use lib.ListN.{length, replicate};
-ghost use mathlib.Core.List.{[], _∷_, _++_};
+ghost use lib.ListN.{length, take, drop, replicate};
+ghost use mathlib.Core.Bool.{true};
+ghost use mathlib.Core.List.{[], _∷_, _++_, map};
 ghost use mathlib.Core.Path.{_≡_};
+ghost use Prim.Native.Nat.{_+_, _≤_};
 ghost use Rattle.circle.specs.Ids.{inserted};
 ghost use Rattle.circle.specs.Open.{faces};
 ghost use Rattle.circle.specs.State.{answered, facts};
 ghost use Rattle.station.specs.Desk.{kept, nothing, standing, said-of, set-of, element-of, elements, numbers, Dealt-new, Shown-new, deal-said, deal-kept, show-said, open-said, face-of};
-ghost use Rattle.station.specs.Grammar.{value, values};
+ghost use Rattle.station.specs.Grammar.{sections, value, values};
+ghost use Rattle.station.specs.Script.{cards, open-stands, stated};
 ghost use Rattle.std.specs.Of.Vec.{vec-items};
 ghost use Rattle.std.specs.Vec.{made};
 ghost use Rattle.std.specs.declared.option.Option.the-variants.{Some};
@@ -152,6 +155,38 @@ fn show_card<F: Field>(heap: Global, circle: &Circle<F>, id: u8, table: &[F], sa
         }
         Err(denial) => Ok(Answer::No(denial.number())),
     }
+}
+
+// The n elements from a place on.
+fn part_of<F: Field>(xs: &[F], from: usize, n: usize) -> &[F]
+    requires { ⌜ from + n ≤ length (now xs) ⌝ }
+    ensures { λ r. ⌜ now r ≡ take n (drop from (now (xs .entry))) ⌝ }
+{
+    &xs[from..from + n]
+}
+
+// The cards that tokens state, each after its slash: their shares are the elements at the same places.
+fn cards_of<'a, F: Field>(heap: Global, tokens: &[Token], xs: &'a [F]) -> Result<Vec<Card<'a, F>>, AllocError>
+    requires stand { ⌜ open-stands (finite .size) (sections (now tokens)) ≡ true ⌝ }
+    requires named { ⌜ now xs ≡ elements ops finite (values (now tokens)) ⌝ }
+    ensures { λ r. ⌜ made r (λ v. faces (vec-items v) ≡ map (face-of ops finite points) (map stated (cards (now (tokens .entry))))) ⌝ }
+{
+    let mut all = Vec::new(heap);
+    let mut left = tokens;
+    let mut at = 0;
+    while let Some((card, rest)) = next_card(left) {
+        let from = at + 3;
+        let n = card.shares.len();
+        let shares = part_of(xs, from, n);
+        all.push(Card {
+            id: card.id,
+            epoch: card.epoch,
+            shares,
+        })?;
+        left = rest;
+        at = from + n;
+    }
+    Ok(all)
 }
 
 impl<F: Field> Desk<F> {
