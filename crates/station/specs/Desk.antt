@@ -126,6 +126,11 @@ module _ {K : Type 0} (F : Ops K) (fin : Finite K) where
     opened-reply (Ok _) c cards = ok (numbers (open-key F (m .at) (Ok tt) c cards []))
     opened-reply (Err d) c cards = no (number d)
 
+    -- a key opened in new memory: the answer, and the memory
+    pub record Opened-new (same : K → K → Bool) (c : Facts) (cards : List (Face K)) (answer : Result (Unit {0}) Denial) (key : List K) : Type 0 where
+      pub answered : answer ≡ open-answer F (m .at) same (m .largest) c cards (c .places)
+      pub written : key ≡ open-key F (m .at) answer c cards (replicate (c .places) (F .zero))
+
     abbrev pub open-said : (K → K → Bool) → Option Facts → List Stated → Said
     open-said same None cards = not-allowed
     open-said same (Some c) cards =

@@ -7,7 +7,7 @@ ghost use Prim.Native.Nat.{_+_, _≤_};
 ghost use Rattle.circle.specs.Ids.{inserted};
 ghost use Rattle.circle.specs.Open.{faces};
 ghost use Rattle.circle.specs.State.{answered, facts};
-ghost use Rattle.station.specs.Desk.{kept, nothing, standing, said-of, set-of, element-of, elements, numbers, Dealt-new, Shown-new, deal-said, deal-kept, show-said, open-said, face-of};
+ghost use Rattle.station.specs.Desk.{kept, nothing, standing, said-of, set-of, element-of, elements, numbers, Dealt-new, Shown-new, Opened-new, deal-said, deal-kept, show-said, open-said, face-of};
 ghost use Rattle.station.specs.Grammar.{sections, value, values};
 ghost use Rattle.station.specs.Script.{cards, open-stands, stated};
 ghost use Rattle.std.specs.Of.Vec.{vec-items};
@@ -189,9 +189,36 @@ fn cards_of<'a, F: Field>(heap: Global, tokens: &[Token], xs: &'a [F]) -> Result
     Ok(all)
 }
 
+// The key that cards open, in new memory.
+fn open_new<F: Field>(heap: Global, circle: &Circle<F>, cards: &[Card<'_, F>]) -> Result<(Result<(), Denial>, Vec<F>), AllocError>
+    ensures { λ r. ⌜ made r (λ d. Opened-new ops finite points (equality .same) (facts (now (circle .entry))) (faces (now (cards .entry))) (d .0) (vec-items (d .1))) ⌝ }
+{
+    let mut key: Vec<F> = zeros(heap, usize::from(circle.places()))?;
+    let answer = open(circle, cards, key.as_mut_slice());
+    Ok((answer, key))
+}
+
+// Opens the cards that tokens state, with nothing said before.
+fn open_cards<F: Field>(heap: Global, circle: &Circle<F>, tokens: &[Token], said: &mut Vec<u32>) -> Result<Answer, AllocError>
+    requires blank { ⌜ vec-items (now said) ≡ [] ⌝ }
+    requires stand { ⌜ open-stands (finite .size) (sections (now tokens)) ≡ true ⌝ }
+    ensures { λ r. ⌜ made r (λ a. said-of a (vec-items (now (said .exit))) ≡ open-said ops finite points (equality .same) (Some (facts (now (circle .entry)))) (map stated (cards (now (tokens .entry))))) ⌝ }
+{
+    let xs: Vec<F> = elements_of(heap, tokens)?;
+    let cards = cards_of(heap, tokens, xs.as_slice())?;
+    let (answer, key) = open_new(heap, circle, cards.as_slice())?;
+    match answer {
+        Ok(_) => {
+            say_elements(key.as_slice(), said)?;
+            Ok(Answer::Done)
+        }
+        Err(denial) => Ok(Answer::No(denial.number())),
+    }
+}
+
 impl<F: Field> Desk<F> {
     // A desk with no circle.
-    pub fn new(heap: Global) -> Self
+    pub(crate) fn new(heap: Global) -> Self
         ensures { λ r. ⌜ kept r ≡ nothing ⌝ }
     {
         Desk {
@@ -201,7 +228,7 @@ impl<F: Field> Desk<F> {
     }
 
     // `D`: deals a key, where no circle exists.
-    pub fn deal(
+    pub(crate) fn deal(
         &mut self,
         heap: Global,
         threshold: u16,
@@ -231,13 +258,25 @@ impl<F: Field> Desk<F> {
     }
 
     // `K`: shows a holder's card.
-    pub fn show(&self, heap: Global, id: u8, said: &mut Vec<u32>) -> Result<Answer, AllocError>
+    pub(crate) fn show(&self, heap: Global, id: u8, said: &mut Vec<u32>) -> Result<Answer, AllocError>
         ensures { λ r. ⌜ made r (λ a. said-of a (vec-items (now (said .exit))) ≡ show-said ops finite points (kept (now (self .entry)) .circle) (kept (now (self .entry)) .table) id) ⌝ }
     {
         said.clear();
         match &self.circle {
             None => Ok(Answer::No(NOT_ALLOWED)),
             Some(circle) => show_card(heap, circle, id, self.table.as_slice(), said),
+        }
+    }
+
+    // `O`: opens the key from the cards that tokens state.
+    pub(crate) fn open(&self, heap: Global, tokens: &[Token], said: &mut Vec<u32>) -> Result<Answer, AllocError>
+        requires { ⌜ open-stands (finite .size) (sections (now tokens)) ≡ true ⌝ }
+        ensures { λ r. ⌜ made r (λ a. said-of a (vec-items (now (said .exit))) ≡ open-said ops finite points (equality .same) (kept (now (self .entry)) .circle) (map stated (cards (now (tokens .entry))))) ⌝ }
+    {
+        said.clear();
+        match &self.circle {
+            None => Ok(Answer::No(NOT_ALLOWED)),
+            Some(circle) => open_cards(heap, circle, tokens, said),
         }
     }
 }
