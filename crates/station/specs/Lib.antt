@@ -3,3 +3,4 @@ pub mod Line
 pub mod Script
 pub mod Spelling
 pub mod Desk
+pub mod Station

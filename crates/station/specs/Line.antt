@@ -1,7 +1,7 @@
 -- The line buffer: what it holds, and what each byte of the input makes of it.
 use Prim.Native.Nat.{ℕ}
 use mathlib.Core.List.{List, [], _∷_, _++_}
-use mathlib.Core.Bool.{Bool, true, false, cond}
+use mathlib.Core.Bool.{Bool, true, cond}
 use lib.Dec.{eqb, ltb}
 use lib.ListN.{length, take}
 use Rattle.station.specs.declared.line.Line.{Line}

@@ -2,7 +2,7 @@
 use Prim.Native.Nat.{ℕ}
 use denote.Ref.{RefT}
 use mathlib.Core.List.{List, [], _∷_, map}
-use mathlib.Core.Bool.{Bool, true, false, cond, not, _&&_}
+use mathlib.Core.Bool.{Bool, true, cond, not, _&&_}
 use lib.Chars.{codes}
 use lib.Dec.{eqb, ltb, leb}
 use lib.ListN.{length, getD, drop}

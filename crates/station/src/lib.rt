@@ -3,3 +3,4 @@ pub mod desk;
 pub mod grammar;
 pub mod line;
 pub mod script;
+pub mod station;

@@ -1,16 +1,15 @@
 -- A line of the form is the spelling of its step.
 use mathlib.Core.Path.{_≡_, refl, sym, ap, _∙_}
-use mathlib.Core.Bool.{Bool, true, false, cond, not, _&&_}
+use mathlib.Core.Bool.{true}
 use mathlib.Core.List.{List, [], _∷_, _++_, map}
 use mathlib.Core.Logic.{inl, inr}
-use Prim.Native.Nat.{ℕ, zero, suc, _+_, _<_, _≤_}
+use Prim.Native.Nat.{ℕ, _≤_}
 use native.Mathlib.Omega.{arith}
 use lib.Chars.{codes}
 use lib.Dec.{eqb, leb, ltb}
 use lib.ListN.{length, getD, drop}
 use Rattle.std.specs.Joined.{joined}
 use Rattle.std.specs.Options.{mapped}
-use Rattle.std.specs.Written.{decimal}
 use Rattle.std.specs.declared.option.Option.{Option}
 use Rattle.std.specs.declared.option.Option.the-variants.{Some, None}
 use Rattle.std.specs.shelf.Text.{sameBytes}
@@ -18,12 +17,12 @@ use Rattle.std.proofs.shelf.Lists.{append-assoc, append-nil}
 use Rattle.std.proofs.shelf.Equals.{sameBytes-decides}
 use Rattle.std.proofs.shelf.Tests.{and-parts, cases-bool, eqb-true, leb-true}
 use Rattle.station.specs.Grammar.{split, onto, words, is-space, number, is-slash-word, token, also, tokens, is-slash, values, sections, part}
-use Rattle.station.specs.Script.{Stated, Meaning, named, dealt, shown, opened, each, in-range, is-card, is-lone-id, card-stands, stated, field-name, name-form, lists-ids, lists-elements, deal-stands, deal-form, show-stands, show-form, open-stands, open-form, of-sections, letter-form, form}
+use Rattle.station.specs.Script.{Meaning, named, each, in-range, is-card, is-lone-id, card-stands, stated, field-name, name-form, deal-stands, deal-form, show-stands, show-form, open-stands, open-form, of-sections, letter-form, form}
 use Rattle.station.specs.Spelling.{number-text, section-text, field-text, card-text, spelled}
 use Rattle.station.specs.declared.grammar.Token.{Token}
 use Rattle.station.specs.declared.grammar.Token.the-variants.{Number, Slash}
 use Rattle.station.specs.declared.script.FieldName.{FieldName}
-use Rattle.station.specs.declared.script.FieldName.the-variants.{Z13, Z41, Z257}
+use Rattle.station.specs.declared.script.FieldName.the-variants.{Z257}
 use Rattle.station.proofs.grammar.Laws.{split-cut}
 use Rattle.station.proofs.grammar.Numbers.{some-under, some-same, number-reads}
 

@@ -1,5 +1,5 @@
 use native.Mathlib.Omega.{arith}
-use mathlib.Core.Path.{_≡_, sym, _∙_}
+use mathlib.Core.Path.{sym}
 use lib.ListN.{length}
 use Rattle.std.proofs.shelf.Lists.{at-drop-all, length-map}
 use Rattle.station.specs.Grammar.{split, is-slash, values}

@@ -1,5 +1,4 @@
 use mathlib.Core.Path.{sym, _∙_}
-use lib.ListN.{getD}
 use native.Mathlib.Omega.{arith}
 use Rattle.std.proofs.shelf.Lists.{getD-map, getD-past, length-map}
 use Rattle.station.specs.Grammar.{value, values}

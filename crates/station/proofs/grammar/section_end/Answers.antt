@@ -10,7 +10,7 @@ loop-end-again c =
     omega (
       arith,
       c .loop-end .inv,
-      before-goes-on is-slash (c .args .tokens .now) (c .loop-end .end) (Number 0) (c .loop-end-test .taken) (sym (c .if-not-is-slash .ensures tt)),
+      before-goes-on is-slash (c .args .tokens .now) (c .loop-end .end) (Number 0) (omega arith) (sym (c .if-not-is-slash .ensures tt)),
     )
 
 pub returns-else-not-is-slash : need.returns-else-not-is-slash
@@ -19,12 +19,12 @@ returns-else-not-is-slash c =
     omega (
       arith,
       c .loop-end .inv,
-      before-stops is-slash (c .args .tokens .now) (c .loop-end .end) (Number 0) (c .loop-end-test .taken) (sym (c .if-not-is-slash .ensures tt)),
+      before-stops is-slash (c .args .tokens .now) (c .loop-end .end) (Number 0) (omega arith) (sym (c .if-not-is-slash .ensures tt)),
     ) in
     record { value = there; after = omega arith; within = λ h. omega (arith, before-within is-slash (c .args .tokens .now) (c .args .from) h) }
 
 pub returns-after-loop-end : need.returns-after-loop-end
 returns-after-loop-end c =
     let there : c .loop-end .end ≡ section-end (c .args .tokens .now) (c .args .from) =
-    omega (arith, c .loop-end .inv, before-ends is-slash (c .args .tokens .now) (c .loop-end .end) (c .loop-end-test .left)) in
+    omega (arith, c .loop-end .inv, before-ends is-slash (c .args .tokens .now) (c .loop-end .end) (omega arith)) in
     record { value = there; after = omega arith; within = λ h. omega (arith, before-within is-slash (c .args .tokens .now) (c .args .from) h) }

@@ -1,4 +1,4 @@
-use mathlib.Core.Path.{_≡_, sym, ap, _∙_}
+use mathlib.Core.Path.{sym, ap, _∙_}
 use Rattle.station.specs.Grammar.{values}
 use Rattle.station.specs.Script.{each, in-range}
 use Rattle.station.proofs.script.Laws.{each-fails, each-goes-on, each-ends}

@@ -1,5 +1,4 @@
-use mathlib.Core.Path.{_≡_, sym, ap, _∙_}
-use mathlib.Core.Bool.{Bool}
+use mathlib.Core.Path.{sym, ap, _∙_}
 use Rattle.station.specs.Grammar.{before, is-slash, values}
 use Rattle.station.specs.Script.{Stated, each, card-stands, cards}
 use Rattle.station.specs.declared.script.Card.{Card}
