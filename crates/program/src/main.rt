@@ -1,7 +1,7 @@
 // Reads a script from standard input, and answers each of its lines.
-use station::run::run;
+use station::run::answer_all;
 use std::io;
 
 fn main(rt: LibcRuntime) -> io::Result<()> {
-    run(&rt)
+    answer_all(&rt)
 }

@@ -2,5 +2,6 @@
 pub mod desk;
 pub mod grammar;
 pub mod line;
+pub mod run;
 pub mod script;
 pub mod station;
