@@ -1,4 +1,5 @@
-// What one holder shows: an id, an epoch, and a share for each place. The struct stands alone, since files of specs name it.
+//! What one holder shows: an id, an epoch, and a share for each place. The struct stands alone, since files of specs name it.
+
 pub mod show;
 
 #[derive(Drop)]

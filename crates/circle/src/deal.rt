@@ -1,4 +1,5 @@
-// Dealing a key: a share to each id of the roll at each place.
+//! Dealing a key: a share to each id of the roll at each place.
+
 ghost use lib.ListN.{length};
 ghost use mathlib.Core.Bool.{true, false};
 ghost use mathlib.Core.Path.{_≡_};
@@ -94,7 +95,7 @@ fn tested_deal<F: Field>(
     })
 }
 
-// Deals the key: a share to each id of the roll at each place.
+/// Deals the key: a share to each id of the roll at each place.
 pub fn deal<F: Field>(
     roll: u32,
     threshold: u16,

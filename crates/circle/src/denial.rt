@@ -1,26 +1,27 @@
-// Why a call is denied. Each denial has a number, and a call answers the first that fits, in the order of the numbers.
+//! Why a call is denied. Each denial has a number, and a call answers the first that fits, in the order of the numbers.
+
 ghost use mathlib.Core.Path.{_≡_};
 ghost use Rattle.circle.specs.Denial.{number};
 
 #[derive(Clone, Copy)]
 pub enum Denial {
-    // Places are not 1 to 32.
+    /// Places are not 1 to 32.
     Places,
-    // An id, alone or in a set, is 0 or above the field's largest.
+    /// An id, alone or in a set, is 0 or above the field's largest.
     NoSuchId,
-    // A threshold is below 2 or above the roll's size.
+    /// A threshold is below 2 or above the roll's size.
     Threshold,
-    // A piece handed over has the wrong length.
+    /// A piece handed over has the wrong length.
     Length,
-    // An id is not on the roll.
+    /// An id is not on the roll.
     NotOnRoll,
-    // Fewer cards than the threshold are listed.
+    /// Fewer cards than the threshold are listed.
     TooFewCards,
-    // An id is listed twice.
+    /// An id is listed twice.
     IdTwice,
-    // A card's epoch is not the circle's.
+    /// A card's epoch is not the circle's.
     OtherEpoch,
-    // A later card lies off a polynomial.
+    /// A later card lies off a polynomial.
     OffPolynomial,
 }
 

@@ -1,4 +1,5 @@
-// The worked examples: nothing is done here.
+//! The worked examples: nothing is done here.
+
 ghost use Rattle.circle.specs.Examples.{Examples};
 
 pub fn worked_examples() -> u8

@@ -1,4 +1,5 @@
-// Sets of holder ids, each held in a `u32`: bit h - 1 for the id h, from 1 to 32.
+//! Sets of holder ids, each held in a `u32`: bit h - 1 for the id h, from 1 to 32.
+
 ghost use mathlib.Core.Path.{_≡_};
 ghost use mathlib.Core.Bool.{not};
 ghost use mathlib.Core.List.{[], _∷_};
@@ -10,7 +11,7 @@ ghost use Rattle.std.specs.Finite.{nth};
 ghost use Rattle.std.specs.Options.{Cases};
 ghost use Rattle.circle.specs.Ids as ids;
 
-// Whether `id` is an id at all.
+/// Whether `id` is an id at all.
 pub fn is_id(id: u8) -> bool
     ensures { λ r. ⌜ r ≡ ids.is-id id ⌝ }
 {
@@ -26,35 +27,35 @@ fn mask(id: u8) -> u32
     if is_id(id) { 1 << (id - 1) } else { 0 }
 }
 
-// Whether the set holds `id`. No set holds what is no id.
+/// Whether the set holds `id`. No set holds what is no id.
 pub fn contains(set: u32, id: u8) -> bool
     ensures { λ r. ⌜ r ≡ ids.member set id ⌝ }
 {
     set & mask(id) != 0
 }
 
-// The set with `id`; the same set where `id` is no id.
+/// The set with `id`; the same set where `id` is no id.
 pub fn insert(set: u32, id: u8) -> u32
     ensures { λ r. ⌜ r ≡ ids.inserted set id ⌝ }
 {
     set | mask(id)
 }
 
-// The set without `id`.
+/// The set without `id`.
 pub fn remove(set: u32, id: u8) -> u32
     ensures { λ r. ⌜ r ≡ ids.removed set id ⌝ }
 {
     set & !mask(id)
 }
 
-// How many ids the set holds.
+/// How many ids the set holds.
 pub fn size(set: u32) -> u32
     ensures { λ r. ⌜ r ≡ ids.size set ⌝ }
 {
     set.count_ones()
 }
 
-// Whether no id of the set is above `largest`.
+/// Whether no id of the set is above `largest`.
 pub fn all_within(set: u32, largest: u8) -> bool
     ensures { λ r. ⌜ r ≡ ids.within-largest set largest ⌝ }
 {
@@ -68,7 +69,7 @@ fn outside(set: u32, of: u32) -> u32
     set & !of
 }
 
-// Whether every id of the set is in `of` too.
+/// Whether every id of the set is in `of` too.
 pub fn is_subset(set: u32, of: u32) -> bool
     ensures { λ r. ⌜ r ≡ ids.subset set of ⌝ }
 {
@@ -85,7 +86,7 @@ fn lowest(set: u32) -> Option<u8>
     Some(set.trailing_zeros() as u8 + 1)
 }
 
-// A walk through the ids of a set, ascending: those still to come.
+/// A walk through the ids of a set, ascending: those still to come.
 #[derive(Drop)]
 pub struct Iter {
     rest: u32,
@@ -107,14 +108,14 @@ pub impl Iterator for Iter as MembersIterator {
     }
 }
 
-// The ids of the set, ascending.
+/// The ids of the set, ascending.
 pub fn members(set: u32) -> Iter
     ensures { λ r. ⌜ r .rest ≡ set ⌝ }
 {
     Iter { rest: set }
 }
 
-// The member at place `k`, from 0, in ascending order.
+/// The member at place `k`, from 0, in ascending order.
 pub fn nth_member(set: u32, k: usize) -> Option<u8>
     ensures { λ r. ⌜ r ≡ nth (ids.members set) k ⌝ }
 {
@@ -128,7 +129,7 @@ pub fn nth_member(set: u32, k: usize) -> Option<u8>
     None
 }
 
-// The lowest id of the set that is not in `of`.
+/// The lowest id of the set that is not in `of`.
 pub fn first_outside(set: u32, of: u32) -> Option<u8>
     ensures { λ r. ⌜ r ≡ ids.first-outside set of ⌝ }
 {
@@ -147,7 +148,7 @@ fn laws_shown() -> u8
     0
 }
 
-// The laws of sets of ids hold.
+/// The laws of sets of ids hold.
 pub fn set_laws() -> u8
     ensures { λ _. ⌜ ids.SetLaws ⌝ }
 {

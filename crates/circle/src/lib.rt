@@ -1,4 +1,5 @@
-// A key in shares, over any field.
+//! A key in shares, over any field.
+
 pub mod card;
 pub mod deal;
 pub mod denial;

@@ -1,4 +1,5 @@
-// Opening a key from cards: the first as many as the threshold give it, and the others must agree.
+//! Opening a key from cards: the first as many as the threshold give it, and the others must agree.
+
 ghost use lib.ListN.{length, take};
 ghost use mathlib.Core.Bool.{true, cond};
 ghost use mathlib.Core.List.{map};
@@ -113,7 +114,12 @@ fn agrees<F: Field>(ids: &[u8], first: &[Card<'_, F>], card: &Card<'_, F>, place
 }
 
 // Whether each later card lies on the polynomials through the first ones.
-fn all_agree<F: Field>(ids: &[u8], first: &[Card<'_, F>], later: &[Card<'_, F>], places: usize) -> bool
+fn all_agree<F: Field>(
+    ids: &[u8],
+    first: &[Card<'_, F>],
+    later: &[Card<'_, F>],
+    places: usize,
+) -> bool
     requires fixing { ⌜ Fixing (points .largest) places (now ids) (faces (now first)) ⌝ }
     requires own { ⌜ all-pass (id-known (points .largest)) (faces (now later)) ≡ true ⌝ }
     requires long { ⌜ all-pass (as-long places) (faces (now later)) ≡ true ⌝ }
@@ -155,8 +161,12 @@ fn settle<F: Field>(first: &[Card<'_, F>], later: &[Card<'_, F>], key: &mut [F])
     true
 }
 
-// Opens the key from cards.
-pub fn open<F: Field>(circle: &Circle<F>, cards: &[Card<'_, F>], key: &mut [F]) -> Result<(), Denial>
+/// Opens the key from cards.
+pub fn open<F: Field>(
+    circle: &Circle<F>,
+    cards: &[Card<'_, F>],
+    key: &mut [F],
+) -> Result<(), Denial>
     ensures answer { λ r. ⌜ r ≡ open-answer ops (points .at) (equality .same) (points .largest) (facts (now (circle .entry))) (faces (now (cards .entry))) (length (now (key .entry))) ⌝ }
     ensures key { λ r. ⌜ now (key .exit) ≡ open-key ops (points .at) r (facts (now (circle .entry))) (faces (now (cards .entry))) (now (key .entry)) ⌝ }
 {

@@ -1,4 +1,5 @@
-// Values of polynomials, and Lagrange's constants.
+//! Values of polynomials, and Lagrange's constants.
+
 ghost use lib.ListN.{length, getD};
 ghost use mathlib.Core.Bool.{true};
 ghost use mathlib.Core.List.{map};
@@ -10,7 +11,7 @@ ghost use Rattle.std.specs.shelf.Lawful.{all-pass};
 ghost use Rattle.circle.specs.Polynomial.{value, gaps, gaps-beside, constant-of, PolynomialLaws};
 use fields::field::Field;
 
-// What a list of numbers comes to at x: Horner's rule, from the highest power down.
+/// What a list of numbers comes to at x: Horner's rule, from the highest power down.
 pub fn value<F: Field>(numbers: &[F], x: F) -> F
     ensures { λ r. ⌜ r ≡ value ops (now (numbers .entry)) x ⌝ }
 {
@@ -94,7 +95,7 @@ pub(crate) fn constants<F: Field>(ids: &[u8], z: F) -> F::Row
     row
 }
 
-// The theorems on polynomials that sharing rests on: nothing is done here.
+/// The theorems on polynomials that sharing rests on: nothing is done here.
 pub fn polynomial_laws<F: Field>() -> u8
     ensures { λ _. ⌜ PolynomialLaws ops ⌝ }
 {

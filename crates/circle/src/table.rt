@@ -1,4 +1,5 @@
-// Lists of numbers, place after place.
+//! Lists of numbers, place after place.
+
 ghost use lib.ListN.{length};
 ghost use mathlib.Core.Path.{_≡_};
 ghost use Prim.Native.Nat.{_+_, _*_, _≤_};

@@ -1,4 +1,5 @@
-// What a finite field is to the code above it: the operations, and the laws that every field keeps.
+//! What a finite field is to the code above it: the operations, and the laws that every field keeps.
+
 ghost use lib.ListN.{length, getD, set, replicate};
 ghost use mathlib.Core.List.{List, _++_};
 ghost use mathlib.Core.Path.{_≡_};
@@ -6,7 +7,7 @@ ghost use Prim.Native.Nat.{_<_, _≤_, _-_};
 ghost use Rattle.fields.specs.Field.{Ops, FieldLaws, Equality, Points, Forms, Finite, sub};
 ghost use Rattle.std.specs.Options.{Cases as BySome};
 
-// An element is its own meaning: no two values of a field's type mean the same element.
+/// An element is its own meaning: no two values of a field's type mean the same element.
 pub trait Field: Copy {
     // The operations.
     ghost ops: { Ops Self };

@@ -1,4 +1,5 @@
-// Finite fields, and the interface that the code above is generic over.
+//! Finite fields, and the interface that the code above is generic over.
+
 pub mod field;
 pub mod modulus;
 pub mod prime;

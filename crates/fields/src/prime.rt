@@ -1,4 +1,5 @@
-// The integers modulo a prime, as fields: one impl for every modulus.
+//! The integers modulo a prime, as fields: one impl for every modulus.
+
 ghost use mathlib.Core.Path.{_≡_};
 ghost use Prim.Native.Nat.{_<_, _%_, _^_};
 ghost use Rattle.fields.specs.Modulus.{prime-ops, prime-points, prime-forms, prime-finite};
@@ -84,7 +85,9 @@ where
     ghost finite = { prime-finite P chosen };
 
     const LARGEST_ID: u8 = <Residue<P> as Modulus<P>>::LARGEST_ID;
+
     const BYTES: usize = <Residue<P> as Modulus<P>>::BYTES;
+
     const FIELD_BYTE: u8 = <Residue<P> as Modulus<P>>::FIELD_BYTE;
 
     fn max_id() -> u8 {
@@ -171,7 +174,9 @@ where
 
     fn element(number: u32) -> Option<Self> {
         if number < P as u32 {
-            return Some(Residue { value: number as u16 });
+            return Some(Residue {
+                value: number as u16,
+            });
         }
         None
     }

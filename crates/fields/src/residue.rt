@@ -1,4 +1,5 @@
-// A number below P. The struct stands alone, since files of specs name it.
+//! A number below P. The struct stands alone, since files of specs name it.
+
 ghost use Prim.Native.Nat.{_<_};
 
 #[derive(Clone, Copy)]

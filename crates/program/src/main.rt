@@ -1,4 +1,5 @@
-// Reads a script from standard input, and answers each of its lines.
+//! Reads a script from standard input, and answers each of its lines.
+
 use station::run::answer_all;
 use std::io;
 

@@ -10,6 +10,7 @@ use Rattle.std.specs.Options.{mapped}
 use Rattle.std.specs.declared.option.Option.{Option}
 use Rattle.std.specs.declared.option.Option.the-variants.{Some, None}
 use Rattle.std.specs.shelf.Text.{sameBytes}
+use Rattle.std.specs.shelf.Lawful.{all-pass}
 use Rattle.station.specs.Grammar.{words, line-tokens, sections, values, part}
 use Rattle.station.specs.declared.grammar.Token.{Token}
 use Rattle.station.specs.declared.script.Card.{Card}
@@ -35,15 +36,10 @@ pub data Meaning : Type 0 where
 
 -- ## Tests
 
--- each element passes
-abbrev pub each : {A : Type 0} → (A → Bool) → List A → Bool
-each test [] = true
-each test (x ∷ xs) = test x && each test xs
-
 -- no number stands twice
 abbrev pub once : List ℕ → Bool
 once [] = true
-once (x ∷ xs) = each (λ y. not (eqb y x)) xs && once xs
+once (x ∷ xs) = all-pass (λ y. not (eqb y x)) xs && once xs
 
 -- at least low, and below high
 abbrev pub in-range : ℕ → ℕ → ℕ → Bool
@@ -55,11 +51,11 @@ filled section = in-range 1 1025 (length section)
 
 -- a set of ids lists each once, and each is 1 to 32
 abbrev pub lists-ids : List ℕ → Bool
-lists-ids section = filled section && (each (in-range 1 33) section && once section)
+lists-ids section = filled section && (all-pass (in-range 1 33) section && once section)
 
 -- elements are below the field's size
 abbrev pub lists-elements : ℕ → List ℕ → Bool
-lists-elements size section = filled section && each (in-range 0 size) section
+lists-elements size section = filled section && all-pass (in-range 0 size) section
 
 -- an id that stands alone is at most 255
 abbrev pub is-lone-id : ℕ → Bool
@@ -71,7 +67,7 @@ is-card section = in-range 2 1025 (length section) && is-lone-id (getD section 0
 
 -- the shares of a card are elements
 abbrev pub card-stands : ℕ → List ℕ → Bool
-card-stands size section = is-card section && each (in-range 0 size) (drop 2 section)
+card-stands size section = is-card section && all-pass (in-range 0 size) (drop 2 section)
 
 -- the card that a section states
 abbrev pub stated : List ℕ → Stated
@@ -110,7 +106,7 @@ show-form ss = cond (show-stands ss) (Some (shown (getD (part ss 0) 0 0))) None
 
 -- `O / card / card ..`: nothing before the first slash, and a card after each
 abbrev pub open-stands : ℕ → List (List ℕ) → Bool
-open-stands size ss = eqb (length (part ss 0)) 0 && each (card-stands size) (drop 1 ss)
+open-stands size ss = eqb (length (part ss 0)) 0 && all-pass (card-stands size) (drop 1 ss)
 
 abbrev pub open-form : ℕ → List (List ℕ) → Option Meaning
 open-form size ss = cond (open-stands size ss) (Some (opened (map stated (drop 1 ss)))) None

@@ -19,8 +19,8 @@ pub enum Token {
     Slash,
 }
 
-/// The place after the last byte of the word that begins at `from`.
-pub fn word_end(line: &[u8], from: usize) -> usize
+// The place after the last byte of the word that begins at `from`.
+pub(crate) fn word_end(line: &[u8], from: usize) -> usize
     ensures value { λ r. ⌜ r ≡ word-end (now (line .entry)) from ⌝ }
     ensures after { λ r. ⌜ from ≤ r ⌝ }
     ensures within { λ r. ⌜ (from ≤ length (now (line .entry)) → r ≤ length (now (line .entry))) ⌝ }
@@ -32,8 +32,8 @@ pub fn word_end(line: &[u8], from: usize) -> usize
     end
 }
 
-/// The number that a word is: unpadded decimal, at most 65,535.
-pub fn number(word: &[u8]) -> Option<u16>
+// The number that a word is: unpadded decimal, at most 65,535.
+pub(crate) fn number(word: &[u8]) -> Option<u16>
     ensures { λ r. ⌜ r ≡ number (now (word .entry)) ⌝ }
 {
     if word.len() == 0 || word.len() != 1 && word[0] == b'0' {
@@ -59,8 +59,8 @@ fn digits_number(word: &[u8]) -> Option<u16>
     Some(value as u16)
 }
 
-/// The token that a word is.
-pub fn read_token(word: &[u8]) -> Option<Token>
+// The token that a word is.
+pub(crate) fn read_token(word: &[u8]) -> Option<Token>
     ensures { λ r. ⌜ r ≡ token (now (word .entry)) ⌝ }
 {
     if word.len() == 1 && word[0] == b'/' {
@@ -72,8 +72,8 @@ pub fn read_token(word: &[u8]) -> Option<Token>
     }
 }
 
-/// Puts the tokens of all words of a line but the first into `out`, in place of what it held, and says whether each is one.
-pub fn tokens(line: &[u8], out: &mut Vec<Token>) -> Result<bool, AllocError>
+// Puts the tokens of all words of a line but the first into `out`, in place of what it held, and says whether each is one.
+pub(crate) fn tokens(line: &[u8], out: &mut Vec<Token>) -> Result<bool, AllocError>
     ensures { λ r. ⌜ made r (λ all. cond all (Some (vec-items (now (out .exit)))) None ≡ line-tokens (now (line .entry))) ⌝ }
 {
     out.clear();
@@ -90,8 +90,8 @@ pub fn tokens(line: &[u8], out: &mut Vec<Token>) -> Result<bool, AllocError>
 }
 
 impl Token {
-    /// Is this a slash?
-    pub fn is_slash(self) -> bool
+    // Is this a slash?
+    pub(crate) fn is_slash(self) -> bool
         ensures { λ r. ⌜ r ≡ is-slash self ⌝ }
     {
         match self {
@@ -100,8 +100,8 @@ impl Token {
         }
     }
 
-    /// The number that this is, and 0 of a slash.
-    pub fn value(self) -> u16
+    // The number that this is, and 0 of a slash.
+    pub(crate) fn value(self) -> u16
         ensures { λ r. ⌜ r ≡ value self ⌝ }
     {
         match self {
@@ -111,8 +111,8 @@ impl Token {
     }
 }
 
-/// The place after the last number of the section that begins at `from`.
-pub fn section_end(tokens: &[Token], from: usize) -> usize
+// The place after the last number of the section that begins at `from`.
+pub(crate) fn section_end(tokens: &[Token], from: usize) -> usize
     ensures value { λ r. ⌜ r ≡ section-end (now (tokens .entry)) from ⌝ }
     ensures after { λ r. ⌜ from ≤ r ⌝ }
     ensures within { λ r. ⌜ (from ≤ length (now (tokens .entry)) → r ≤ length (now (tokens .entry))) ⌝ }
@@ -124,8 +124,8 @@ pub fn section_end(tokens: &[Token], from: usize) -> usize
     end
 }
 
-/// How many sections there are.
-pub fn count(tokens: &[Token]) -> usize
+// How many sections there are.
+pub(crate) fn count(tokens: &[Token]) -> usize
     ensures { λ r. ⌜ r ≡ length (sections (now (tokens .entry))) ⌝ }
 {
     let mut slashes: usize = 0;
@@ -137,8 +137,8 @@ pub fn count(tokens: &[Token]) -> usize
     slashes + 1
 }
 
-/// The section at a place, from 0; nothing where there is none.
-pub fn section(tokens: &[Token], place: usize) -> &[Token]
+// The section at a place, from 0; nothing where there is none.
+pub(crate) fn section(tokens: &[Token], place: usize) -> &[Token]
     ensures value { λ r. ⌜ values (now r) ≡ part (sections (now (tokens .entry))) place ⌝ }
     ensures long { λ r. ⌜ length (now r) ≡ length (part (sections (now (tokens .entry))) place) ⌝ }
 {
@@ -153,8 +153,8 @@ pub fn section(tokens: &[Token], place: usize) -> &[Token]
     &tokens[from..section_end(tokens, from)]
 }
 
-/// The tokens from a place on; nothing where there are none.
-pub fn rest(tokens: &[Token], from: usize) -> &[Token]
+// The tokens from a place on; nothing where there are none.
+pub(crate) fn rest(tokens: &[Token], from: usize) -> &[Token]
     ensures { λ r. ⌜ now r ≡ drop from (now (tokens .entry)) ⌝ }
 {
     if from < tokens.len() {
@@ -164,8 +164,8 @@ pub fn rest(tokens: &[Token], from: usize) -> &[Token]
     }
 }
 
-/// The number at a place of a section, and 0 where there is none.
-pub fn number_at(section: &[Token], place: usize) -> u16
+// The number at a place of a section, and 0 where there is none.
+pub(crate) fn number_at(section: &[Token], place: usize) -> u16
     ensures { λ r. ⌜ r ≡ getD (values (now (section .entry))) place 0 ⌝ }
 {
     if place < section.len() {

@@ -1,4 +1,5 @@
-// A whole run: lines in, answers out. What a program reads and writes is outside any contract, so these functions are kept thin.
+//! A whole run: lines in, answers out. What a program reads and writes is outside any contract, so these functions are kept thin.
+
 use crate::desk::Answer;
 use crate::grammar::Token;
 use crate::line::Line;
@@ -40,7 +41,8 @@ fn feed(heap: Global, out: &mut impl Write, run: &mut Run, chunk: &[u8]) -> io::
         match run.line.take(*byte) {
             Took::More => {}
             Took::Whole => {
-                let answer = run.station.answer(heap, run.line.bytes(), &mut run.room, &mut run.said)?;
+                let answer = run.station
+                    .answer(heap, run.line.bytes(), &mut run.room, &mut run.said)?;
                 say(out, answer, run.said.as_slice())?;
                 run.line.clear();
             }
@@ -53,7 +55,7 @@ fn feed(heap: Global, out: &mut impl Write, run: &mut Run, chunk: &[u8]) -> io::
     Ok(())
 }
 
-// Answers each line of standard input on standard output.
+/// Answers each line of standard input on standard output.
 pub fn answer_all(rt: &LibcRuntime) -> io::Result<()> {
     let heap = rt.alloc();
     let mut out = BufWriter::new(rt.stdout());

@@ -6,7 +6,8 @@ ghost use Prim.Native.Nat.{ℕ};
 ghost use mathlib.Core.Path.{_≡_};
 ghost use lib.ListN.{drop, length};
 ghost use Rattle.station.specs.Grammar.{line-tokens, sections, values, words};
-ghost use Rattle.station.specs.Script.{card-read, card-stands, cards, deal-form, deal-stands, each, field-name, filled, form, in-range, is-card, letter-form, lists-elements, lists-ids, meaning, name-form, next-card, once, open-form, show-form, stands};
+ghost use Rattle.station.specs.Script.{card-read, card-stands, cards, deal-form, deal-stands, field-name, filled, form, in-range, is-card, letter-form, lists-elements, lists-ids, meaning, name-form, next-card, once, open-form, show-form, stands};
+ghost use Rattle.std.specs.shelf.Lawful.{all-pass};
 ghost use Rattle.station.specs.Spelling.{Grammar-laws};
 ghost use Rattle.std.specs.Options.{mapped};
 ghost use Rattle.std.specs.Vec.{made};
@@ -65,8 +66,8 @@ fn is_text(word: &[u8], text: &[u8]) -> bool
     word == text
 }
 
-/// The field that a word names.
-pub fn field_name(word: &[u8]) -> Option<FieldName>
+// The field that a word names.
+pub(crate) fn field_name(word: &[u8]) -> Option<FieldName>
     ensures { λ r. ⌜ r ≡ field-name (now (word .entry)) ⌝ }
 {
     if is_text(word, b"z13") {
@@ -92,7 +93,7 @@ fn in_range(low: u32, high: u32, n: u16) -> bool
 
 // Is each number at least `low` and below `high`?
 fn all_in_range(section: &[Token], low: u32, high: u32) -> bool
-    ensures { λ r. ⌜ r ≡ each (in-range low high) (values (now (section .entry))) ⌝ }
+    ensures { λ r. ⌜ r ≡ all-pass (in-range low high) (values (now (section .entry))) ⌝ }
 {
     for token in section {
         if !in_range(low, high, token.value()) {
@@ -104,7 +105,7 @@ fn all_in_range(section: &[Token], low: u32, high: u32) -> bool
 
 // Does the number stand nowhere?
 fn lacks(section: &[Token], n: u16) -> bool
-    ensures { λ r. ⌜ r ≡ each (λ m. not (eqb m n)) (values (now (section .entry))) ⌝ }
+    ensures { λ r. ⌜ r ≡ all-pass (λ m. not (eqb m n)) (values (now (section .entry))) ⌝ }
 {
     for token in section {
         if token.value() == n {
@@ -224,8 +225,8 @@ fn is_card(section: &[Token]) -> bool
     len(section) >= 2 && len(section) < 1025 && number_at(section, 0) <= 255
 }
 
-/// The card after the first slash, and the tokens after it.
-pub fn next_card(tokens: &[Token]) -> Option<(Card<'_>, &[Token])>
+// The card after the first slash, and the tokens after it.
+pub(crate) fn next_card(tokens: &[Token]) -> Option<(Card<'_>, &[Token])>
     ensures { λ r. ⌜ card-read r ≡ next-card (now (tokens .entry)) ⌝ }
 {
     if tokens.len() == 0 {
@@ -250,7 +251,7 @@ pub fn next_card(tokens: &[Token]) -> Option<(Card<'_>, &[Token])>
 
 // Is each section after the first a card with elements of a field of this size?
 fn cards_stand(size: u32, tokens: &[Token]) -> bool
-    ensures { λ r. ⌜ r ≡ each (card-stands size) (cards (now (tokens .entry))) ⌝ }
+    ensures { λ r. ⌜ r ≡ all-pass (card-stands size) (cards (now (tokens .entry))) ⌝ }
 {
     let mut left = rest(tokens, section(tokens, 0).len());
     while left.len() > 0 {
@@ -303,9 +304,9 @@ fn step_of<'a>(
     }
 }
 
-/// The step that a line without its newline states, with elements below `size`; none if it is not of the form.
-/// The tokens of the line are kept in `room`, in place of what it held.
-pub fn parse<'a>(
+// The step that a line without its newline states, with elements below `size`; none if it is not of the form.
+// The tokens of the line are kept in `room`, in place of what it held.
+pub(crate) fn parse<'a>(
     size: u32,
     line: &[u8],
     room: &'a mut Vec<Token>,

@@ -1,5 +1,6 @@
-// The states of a script: no field is named yet, or there is the desk of the field that was. The enum stands alone,
-// since files of specs name it.
+//! The states of a script: no field is named yet, or there is the desk of the field that was. The enum stands alone,
+//! since files of specs name it.
+
 use crate::desk::Desk;
 use fields::modulus::Z13;
 use fields::modulus::Z41;

@@ -46,7 +46,6 @@ module _ {K : Type 0} {F : Ops K} (laws : FieldLaws F) where
   infixl 65 _⊕_
   infixl 70 _⊗_
   infix 80 ⊖_
-
   -- ## One place
 
   -- n numbers that, after the constant term d, are zero at fewer than n + 1 points
@@ -143,15 +142,15 @@ module _ {K : Type 0} {F : Ops K} (laws : FieldLaws F) where
   hides m roll t places key key′ chosen fits few long = (
     shift m chosen t fits few places key key′,
     λ numbers table c ok.
-      let met = deal-met (m .largest) roll t places (length key) (length numbers) (length table) c ok in
-      let shifted = plus F numbers (shift m chosen t fits few places key key′) in (
-        ap₂ (λ k n. deal-answer (m .largest) roll t places k n (length table)) long (length-plus F numbers (shift m chosen t fits few places key key′)) ∙ ok,
-        λ p h less mine.
-          let id = id-bounds h (member-id chosen h fits mine) in
-          subst (λ c. entry 𝟘 (deal-table F (m .at) (Ok c) key′ shifted table) p h ≡ entry 𝟘 (deal-table F (m .at) (Ok c) key numbers table) p h)
-          (sym (met .is))
-          (grid-at (dealt F (m .at) roll (t - 1) key′ shifted) places p h 𝟘 less (id .0) (id .1)
-          ∙ same-share m chosen t fits few roll places key key′ numbers (met .known) (met .numbers-length) p h less mine
-          ∙ sym (grid-at (dealt F (m .at) roll (t - 1) key numbers) places p h 𝟘 less (id .0) (id .1))),
-      ),
+        let met = deal-met (m .largest) roll t places (length key) (length numbers) (length table) c ok in
+        let shifted = plus F numbers (shift m chosen t fits few places key key′) in (
+          ap₂ (λ k n. deal-answer (m .largest) roll t places k n (length table)) long (length-plus F numbers (shift m chosen t fits few places key key′)) ∙ ok,
+          λ p h less mine.
+              let id = id-bounds h (member-id chosen h fits mine) in
+              subst (λ c. entry 𝟘 (deal-table F (m .at) (Ok c) key′ shifted table) p h ≡ entry 𝟘 (deal-table F (m .at) (Ok c) key numbers table) p h)
+              (sym (met .is))
+              (grid-at (dealt F (m .at) roll (t - 1) key′ shifted) places p h 𝟘 less (id .0) (id .1)
+              ∙ same-share m chosen t fits few roll places key key′ numbers (met .known) (met .numbers-length) p h less mine
+              ∙ sym (grid-at (dealt F (m .at) roll (t - 1) key numbers) places p h 𝟘 less (id .0) (id .1))),
+        ),
   )

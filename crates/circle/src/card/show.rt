@@ -1,4 +1,5 @@
-// Showing a holder's card.
+//! Showing a holder's card.
+
 ghost use lib.ListN.{length};
 ghost use mathlib.Core.Path.{_≡_};
 ghost use Prim.Native.Nat.{_*_, _≤_};
@@ -22,8 +23,13 @@ fn copy_shares<F: Field>(id: u8, table: &[F], shares: &mut [F])
     }
 }
 
-// Writes the shares of a holder into the buffer, place after place.
-pub fn show<F: Field>(circle: &Circle<F>, id: u8, table: &[F], shares: &mut [F]) -> Result<(), Denial>
+/// Writes the shares of a holder into the buffer, place after place.
+pub fn show<F: Field>(
+    circle: &Circle<F>,
+    id: u8,
+    table: &[F],
+    shares: &mut [F],
+) -> Result<(), Denial>
     ensures answer { λ r. ⌜ r ≡ show-answer (points .largest) (facts (now (circle .entry))) id (length (now (table .entry))) (length (now (shares .entry))) ⌝ }
     ensures shares { λ r. ⌜ now (shares .exit) ≡ show-shares ops r (facts (now (circle .entry))) id (now (table .entry)) (now (shares .entry)) ⌝ }
 {

@@ -47,9 +47,9 @@ card-spot ts card more found =
     let all : 1 + length s ≡ 3 + n = omega arith in (
       omega (arith, length-drop 1 ts),
       shares
-      ∙ ap (drop 2) (section-is ts ∙ ap (λ k. values (take k us)) count)
-      ∙ drop-map value 2 (take (2 + n) us)
-      ∙ ap values (drop-take 2 n us ∙ ap (take n) (drop-drop 2 1 ts)),
+          ∙ ap (drop 2) (section-is ts ∙ ap (λ k. values (take k us)) count)
+          ∙ drop-map value 2 (take (2 + n) us)
+          ∙ ap values (drop-take 2 n us ∙ ap (take n) (drop-drop 2 1 ts)),
       is .3 ∙ drop-drop (length s) 1 ts ∙ ap (λ k. drop k ts) all,
     )
 

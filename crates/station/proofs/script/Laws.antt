@@ -11,7 +11,8 @@ use Rattle.std.proofs.shelf.Lists.{at-drop-more, at-drop-all, length-map, drop-
 use Rattle.std.proofs.shelf.Tests.{ne-eqb, and-parts, and-left, and-right, and-from, ltb-true, lt-ltb, eqb-true, cases-lt, both-ways}
 use Rattle.std.specs.declared.option.Option.the-variants.{Some, None}
 use Rattle.station.specs.Grammar.{split, before, words, word-end, is-space, is-slash, value, values, sections, part}
-use Rattle.station.specs.Script.{Stated, each, once, field-name, name-form, in-range, is-card, card-stands, stated, open-stands, cards, card-section, next-card}
+use Rattle.std.specs.shelf.Lawful.{all-pass}
+use Rattle.station.specs.Script.{Stated, once, field-name, name-form, in-range, is-card, card-stands, stated, open-stands, cards, card-section, next-card}
 use Rattle.station.proofs.grammar.Laws.{words-after, words-rest, words-none, part-cut, space-next, part-values, first-long, rest-same, rest-cut}
 use Rattle.station.specs.declared.grammar.Token.{Token}
 use Rattle.station.specs.declared.grammar.Token.the-variants.{Number}
@@ -28,18 +29,18 @@ none-if false x e = refl
 
 -- ## A test of each number
 
-module _ (test : ℕ → Bool) (ts : List Token) (i : ℕ) (whole : Bool) (so-far : each test (values (drop i ts)) ≡ whole) where
+module _ (test : ℕ → Bool) (ts : List Token) (i : ℕ) (whole : Bool) (so-far : all-pass test (values (drop i ts)) ≡ whole) where
   pub each-ends : length ts ≤ i → true ≡ whole
-  each-ends past = sym (at-drop-all (λ r. each test (values r)) ts i past) ∙ so-far
+  each-ends past = sym (at-drop-all (λ r. all-pass test (values r)) ts i past) ∙ so-far
 
   module _ (within : i < length ts) where
-    step : each test (values (drop i ts)) ≡ (test (value (getD ts i (Number 0))) && each test (values (drop (i + 1) ts)))
-    step = at-drop-more (λ r. each test (values r)) ts i (Number 0) within
+    step : all-pass test (values (drop i ts)) ≡ (test (value (getD ts i (Number 0))) && all-pass test (values (drop (i + 1) ts)))
+    step = at-drop-more (λ r. all-pass test (values r)) ts i (Number 0) within
 
     pub each-fails : test (value (getD ts i (Number 0))) ≡ false → false ≡ whole
     each-fails fails = rw fails at (sym step ∙ so-far)
 
-    pub each-goes-on : test (value (getD ts i (Number 0))) ≡ true → each test (values (drop (i + 1) ts)) ≡ whole
+    pub each-goes-on : test (value (getD ts i (Number 0))) ≡ true → all-pass test (values (drop (i + 1) ts)) ≡ whole
     each-goes-on passes = rw passes at (sym step ∙ so-far)
 
 -- ## No number twice
@@ -53,13 +54,13 @@ module _ (ts : List Token) (i : ℕ) (whole : Bool) (so-far : once (values (drop
   once-ends past = sym (at-drop-all (λ r. once (values r)) ts i past) ∙ so-far
 
   module _ (within : i < length ts) where
-    step-once : once (values (drop i ts)) ≡ (each (other (value (getD ts i (Number 0)))) (values (drop (i + 1) ts)) && once (values (drop (i + 1) ts)))
+    step-once : once (values (drop i ts)) ≡ (all-pass (other (value (getD ts i (Number 0)))) (values (drop (i + 1) ts)) && once (values (drop (i + 1) ts)))
     step-once = at-drop-more (λ r. once (values r)) ts i (Number 0) within
 
-    pub once-fails : each (other (value (getD ts i (Number 0)))) (values (drop (i + 1) ts)) ≡ false → false ≡ whole
+    pub once-fails : all-pass (other (value (getD ts i (Number 0)))) (values (drop (i + 1) ts)) ≡ false → false ≡ whole
     once-fails fails = rw fails at (sym step-once ∙ so-far)
 
-    pub once-goes-on : each (other (value (getD ts i (Number 0)))) (values (drop (i + 1) ts)) ≡ true → once (values (drop (i + 1) ts)) ≡ whole
+    pub once-goes-on : all-pass (other (value (getD ts i (Number 0)))) (values (drop (i + 1) ts)) ≡ true → once (values (drop (i + 1) ts)) ≡ whole
     once-goes-on passes = rw passes at (sym step-once ∙ so-far)
 
 -- ## The words after the first
@@ -133,11 +134,11 @@ next-none ts some none =
     rw (lt-ltb 0 (length ts) some) at (none-if (ltb 0 (length ts) && is-card (card-section ts)) (stated (card-section ts), after-card ts) none)
 
 -- the test of each card, card by card: what is left passes as the whole does
-module _ (size : ℕ) (ts : List Token) (whole : Bool) (here : before is-slash ts ≡ 0) (so-far : each (card-stands size) (cards ts) ≡ whole) where
+module _ (size : ℕ) (ts : List Token) (whole : Bool) (here : before is-slash ts ≡ 0) (so-far : all-pass (card-stands size) (cards ts) ≡ whole) where
   pub cards-end : length ts ≤ 0 → true ≡ whole
   cards-end none = rw (cards-none ts none) at so-far
 
-  step-card : 0 < length ts → (card-stands size (card-section ts) && each (card-stands size) (cards (after-card ts))) ≡ whole
+  step-card : 0 < length ts → (card-stands size (card-section ts) && all-pass (card-stands size) (cards (after-card ts))) ≡ whole
   step-card some = rw (cards-cut ts some here .1) at so-far
 
   pub cards-refused : 0 < length ts → None ≡ next-card ts → false ≡ whole
@@ -149,18 +150,18 @@ module _ (size : ℕ) (ts : List Token) (whole : Bool) (here : before is-slash t
     shares-are : card .shares ≡ drop 2 (card-section ts)
     shares-are = ap (λ (c : Stated). c .shares) (next-some ts card more found .2)
 
-    pub card-refused : each (in-range 0 size) (card .shares) ≡ false → false ≡ whole
+    pub card-refused : all-pass (in-range 0 size) (card .shares) ≡ false → false ≡ whole
     card-refused fails-shares =
-        let fails : card-stands size (card-section ts) ≡ false = and-right _ _ (sym (ap (each (in-range 0 size)) shares-are) ∙ fails-shares) in
+        let fails : card-stands size (card-section ts) ≡ false = and-right _ _ (sym (ap (all-pass (in-range 0 size)) shares-are) ∙ fails-shares) in
         rw fails at (step-card (next-some ts card more found .0))
 
-    pub card-passed : each (in-range 0 size) (card .shares) ≡ true → (before is-slash more ≡ 0) × (each (card-stands size) (cards more) ≡ whole)
+    pub card-passed : all-pass (in-range 0 size) (card .shares) ≡ true → (before is-slash more ≡ 0) × (all-pass (card-stands size) (cards more) ≡ whole)
     card-passed passes-shares =
         let is = next-some ts card more found in
         let cut = cards-cut ts (is .0) here in
-        let passes : card-stands size (card-section ts) ≡ true = and-from _ _ (is .1) (sym (ap (each (in-range 0 size)) shares-are) ∙ passes-shares) in
-        let rest : each (card-stands size) (cards (after-card ts)) ≡ whole = rw passes at (step-card (is .0)) in
-        (ap (before is-slash) (is .3) ∙ cut .0, ap (λ r. each (card-stands size) (cards r)) (is .3) ∙ rest)
+        let passes : card-stands size (card-section ts) ≡ true = and-from _ _ (is .1) (sym (ap (all-pass (in-range 0 size)) shares-are) ∙ passes-shares) in
+        let rest : all-pass (card-stands size) (cards (after-card ts)) ≡ whole = rw passes at (step-card (is .0)) in
+        (ap (before is-slash) (is .3) ∙ cut .0, ap (λ r. all-pass (card-stands size) (cards r)) (is .3) ∙ rest)
 
     pub card-shorter : length more < length ts
     card-shorter =
@@ -171,26 +172,26 @@ module _ (size : ℕ) (ts : List Token) (whole : Bool) (here : before is-slash t
 
 -- it begins at a slash, or there is none
 pub open-begins : (size : ℕ) (ts : List Token) → open-stands size (sections ts) ≡ true
-    → (before is-slash ts ≡ 0) × (each (card-stands size) (cards ts) ≡ true)
+    → (before is-slash ts ≡ 0) × (all-pass (card-stands size) (cards ts) ≡ true)
 open-begins size ts stands =
-    let parts = and-parts (eqb (length (part (sections ts) 0)) 0) (each (card-stands size) (cards ts)) stands in
+    let parts = and-parts (eqb (length (part (sections ts) 0)) 0) (all-pass (card-stands size) (cards ts)) stands in
     (sym (first-section-long ts) ∙ eqb-true _ _ (parts .0), parts .1)
 
-module _ (size : ℕ) (ts : List Token) (here : before is-slash ts ≡ 0) (stand : each (card-stands size) (cards ts) ≡ true) where
+module _ (size : ℕ) (ts : List Token) (here : before is-slash ts ≡ 0) (stand : all-pass (card-stands size) (cards ts) ≡ true) where
   -- each card found is the next one, its shares are elements, and the walk goes on after it
   pub walk-more : (card : Stated) (more : List Token) → Some (card, more) ≡ next-card ts
       → (before is-slash more ≡ 0)
-      × (each (card-stands size) (cards more) ≡ true)
-      × (each (in-range 0 size) (card .shares) ≡ true)
+      × (all-pass (card-stands size) (cards more) ≡ true)
+      × (all-pass (in-range 0 size) (card .shares) ≡ true)
       × (map stated (cards ts) ≡ card ∷ map stated (cards more))
   walk-more card more found =
       let is = next-some ts card more found in
       let cut = cards-cut ts (is .0) here in
-      let all = and-parts (card-stands size (card-section ts)) (each (card-stands size) (cards (after-card ts))) (rw (cut .1) at stand) in
-      let shares = and-parts (is-card (card-section ts)) (each (in-range 0 size) (drop 2 (card-section ts))) (all .0) in (
+      let all = and-parts (card-stands size (card-section ts)) (all-pass (card-stands size) (cards (after-card ts))) (rw (cut .1) at stand) in
+      let shares = and-parts (is-card (card-section ts)) (all-pass (in-range 0 size) (drop 2 (card-section ts))) (all .0) in (
         ap (before is-slash) (is .3) ∙ cut .0,
-        ap (λ r. each (card-stands size) (cards r)) (is .3) ∙ all .1,
-        ap (λ (c : Stated). each (in-range 0 size) (c .shares)) (is .2) ∙ shares .1,
+        ap (λ r. all-pass (card-stands size) (cards r)) (is .3) ∙ all .1,
+        ap (λ (c : Stated). all-pass (in-range 0 size) (c .shares)) (is .2) ∙ shares .1,
         ap (map stated) (cut .1) ∙ (ap (λ c. c ∷ map stated (cards (after-card ts))) (sym (is .2)) ∙ ap (λ r. card ∷ map stated (cards r)) (sym (is .3))),
       )
 
@@ -199,8 +200,8 @@ module _ (size : ℕ) (ts : List Token) (here : before is-slash ts ≡ 0) (stand
   walk-ends none =
       elim (cases-lt 0 (length ts)) [
         | inl some ↦
-            let all = and-parts (card-stands size (card-section ts)) (each (card-stands size) (cards (after-card ts))) (rw (cards-cut ts some here .1) at stand) in
-            let card = and-parts (is-card (card-section ts)) (each (in-range 0 size) (drop 2 (card-section ts))) (all .0) in
+            let all = and-parts (card-stands size (card-section ts)) (all-pass (card-stands size) (cards (after-card ts))) (rw (cards-cut ts some here .1) at stand) in
+            let card = and-parts (is-card (card-section ts)) (all-pass (in-range 0 size) (drop 2 (card-section ts))) (all .0) in
             absurd (both-ways (is-card (card-section ts)) (next-none ts some none) (card .0))
         | inr past ↦ ap (map stated) (cards-none ts past)
       ]

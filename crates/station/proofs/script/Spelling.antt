@@ -17,7 +17,8 @@ use Rattle.std.proofs.shelf.Lists.{append-assoc, append-nil}
 use Rattle.std.proofs.shelf.Equals.{sameBytes-decides}
 use Rattle.std.proofs.shelf.Tests.{and-parts, cases-bool, eqb-true, leb-true}
 use Rattle.station.specs.Grammar.{split, onto, words, is-space, number, is-slash-word, token, also, tokens, is-slash, values, sections, part}
-use Rattle.station.specs.Script.{Meaning, named, each, in-range, is-card, is-lone-id, card-stands, stated, field-name, name-form, deal-stands, deal-form, show-stands, show-form, open-stands, open-form, of-sections, letter-form, form}
+use Rattle.std.specs.shelf.Lawful.{all-pass}
+use Rattle.station.specs.Script.{Meaning, named, in-range, is-card, is-lone-id, card-stands, stated, field-name, name-form, deal-stands, deal-form, show-stands, show-form, open-stands, open-form, of-sections, letter-form, form}
 use Rattle.station.specs.Spelling.{number-text, section-text, field-text, card-text, spelled}
 use Rattle.station.specs.declared.grammar.Token.{Token}
 use Rattle.station.specs.declared.grammar.Token.the-variants.{Number, Slash}
@@ -202,11 +203,11 @@ card-spelled [] two = absurd (omega arith)
 card-spelled (a ∷ []) two = absurd (omega arith)
 card-spelled (a ∷ (b ∷ s)) two = refl
 
-cards-spelled : (size : ℕ) (ss : List (List ℕ)) → each (card-stands size) ss ≡ true → joined card-text (map stated ss) ≡ joined section-text ss
+cards-spelled : (size : ℕ) (ss : List (List ℕ)) → all-pass (card-stands size) ss ≡ true → joined card-text (map stated ss) ≡ joined section-text ss
 cards-spelled size [] stands = refl
 cards-spelled size (s ∷ ss) stands =
-    let parts = and-parts (card-stands size s) (each (card-stands size) ss) stands in
-    let card = and-parts (is-card s) (each (in-range 0 size) (drop 2 s)) (parts .0) in
+    let parts = and-parts (card-stands size s) (all-pass (card-stands size) ss) stands in
+    let card = and-parts (is-card s) (all-pass (in-range 0 size) (drop 2 s)) (parts .0) in
     let long = and-parts (in-range 2 1025 (length s)) (is-lone-id (getD s 0 0)) (card .0) in
     let least = and-parts (leb 2 (length s)) (ltb (length s) 1025) (long .0) in
     ap (λ t. t ++ joined card-text (map stated ss)) (card-spelled s (leb-true _ _ (least .0)))
@@ -219,7 +220,7 @@ none-first (a ∷ s) none = absurd (omega arith)
 opened-spelled : (size : ℕ) (ss : List (List ℕ)) (step : Meaning) → open-form size ss ≡ Some step → spelled step ≡ 79 ∷ sections-text ss
 opened-spelled size ss step is =
     let stands = some-under (open-stands size ss) _ step is in
-    let parts = and-parts (eqb (length (part ss 0)) 0) (each (card-stands size) (drop 1 ss)) (stands .0) in
+    let parts = and-parts (eqb (length (part ss 0)) 0) (all-pass (card-stands size) (drop 1 ss)) (stands .0) in
     ap spelled (sym (some-same _ _ (stands .1)))
     ∙ ap (λ r. 79 ∷ r) (cards-spelled size (drop 1 ss) (parts .1) ∙ sym (ap (λ r. r ++ joined section-text (drop 1 ss)) (none-first (part ss 0) (eqb-true _ _ (parts .0)))))
 

@@ -1,4 +1,5 @@
-// The steps at the desk of a field that is named.
+//! The steps at the desk of a field that is named.
+
 ghost use lib.ListN.{length, take, drop, replicate};
 ghost use mathlib.Core.Bool.{true};
 ghost use mathlib.Core.List.{[], _∷_, _++_, map};
@@ -119,12 +120,24 @@ fn deal_new<F: Field>(
     let key: Vec<F> = elements_of(heap, key)?;
     let numbers: Vec<F> = elements_of(heap, numbers)?;
     let mut table: Vec<F> = zeros(heap, 32 * usize::from(places.min(32)))?;
-    let answer = deal(roll, threshold, places, key.as_slice(), numbers.as_slice(), table.as_mut_slice());
+    let answer = deal(
+        roll,
+        threshold,
+        places,
+        key.as_slice(),
+        numbers.as_slice(),
+        table.as_mut_slice(),
+    );
     Ok((answer, table))
 }
 
 // The shares of a holder, in new memory.
-fn show_new<F: Field>(heap: Global, circle: &Circle<F>, id: u8, table: &[F]) -> Result<(Result<(), Denial>, Vec<F>), AllocError>
+fn show_new<F: Field>(
+    heap: Global,
+    circle: &Circle<F>,
+    id: u8,
+    table: &[F],
+) -> Result<(Result<(), Denial>, Vec<F>), AllocError>
     ensures { λ r. ⌜ made r (λ d. Shown-new ops finite points (facts (now (circle .entry))) id (now (table .entry)) (d .0) (vec-items (d .1))) ⌝ }
 {
     let mut shares: Vec<F> = zeros(heap, usize::from(circle.places()))?;
@@ -133,7 +146,12 @@ fn show_new<F: Field>(heap: Global, circle: &Circle<F>, id: u8, table: &[F]) -> 
 }
 
 // Says an id, an epoch and shares.
-fn say_card<F: Field>(id: u8, epoch: u16, shares: &[F], said: &mut Vec<u32>) -> Result<(), AllocError>
+fn say_card<F: Field>(
+    id: u8,
+    epoch: u16,
+    shares: &[F],
+    said: &mut Vec<u32>,
+) -> Result<(), AllocError>
     requires { ⌜ vec-items (now said) ≡ [] ⌝ }
     ensures { λ r. ⌜ made r (λ _. vec-items (now (said .exit)) ≡ id ∷ epoch ∷ numbers ops finite (now (shares .entry))) ⌝ }
 {
@@ -143,7 +161,13 @@ fn say_card<F: Field>(id: u8, epoch: u16, shares: &[F], said: &mut Vec<u32>) -> 
 }
 
 // Shows a holder's card, with nothing said before.
-fn show_card<F: Field>(heap: Global, circle: &Circle<F>, id: u8, table: &[F], said: &mut Vec<u32>) -> Result<Answer, AllocError>
+fn show_card<F: Field>(
+    heap: Global,
+    circle: &Circle<F>,
+    id: u8,
+    table: &[F],
+    said: &mut Vec<u32>,
+) -> Result<Answer, AllocError>
     requires { ⌜ vec-items (now said) ≡ [] ⌝ }
     ensures { λ r. ⌜ made r (λ a. said-of a (vec-items (now (said .exit))) ≡ show-said ops finite points (Some (facts (now (circle .entry)))) (now (table .entry)) id) ⌝ }
 {
@@ -166,7 +190,11 @@ fn part_of<F: Field>(xs: &[F], from: usize, n: usize) -> &[F]
 }
 
 // The cards that tokens state, each after its slash: their shares are the elements at the same places.
-fn cards_of<'a, F: Field>(heap: Global, tokens: &[Token], xs: &'a [F]) -> Result<Vec<Card<'a, F>>, AllocError>
+fn cards_of<'a, F: Field>(
+    heap: Global,
+    tokens: &[Token],
+    xs: &'a [F],
+) -> Result<Vec<Card<'a, F>>, AllocError>
     requires stand { ⌜ open-stands (finite .size) (sections (now tokens)) ≡ true ⌝ }
     requires named { ⌜ now xs ≡ elements ops finite (values (now tokens)) ⌝ }
     ensures { λ r. ⌜ made r (λ v. faces (vec-items v) ≡ map (face-of ops finite points) (map stated (cards (now (tokens .entry))))) ⌝ }
@@ -190,7 +218,11 @@ fn cards_of<'a, F: Field>(heap: Global, tokens: &[Token], xs: &'a [F]) -> Result
 }
 
 // The key that cards open, in new memory.
-fn open_new<F: Field>(heap: Global, circle: &Circle<F>, cards: &[Card<'_, F>]) -> Result<(Result<(), Denial>, Vec<F>), AllocError>
+fn open_new<F: Field>(
+    heap: Global,
+    circle: &Circle<F>,
+    cards: &[Card<'_, F>],
+) -> Result<(Result<(), Denial>, Vec<F>), AllocError>
     ensures { λ r. ⌜ made r (λ d. Opened-new ops finite points (equality .same) (facts (now (circle .entry))) (faces (now (cards .entry))) (d .0) (vec-items (d .1))) ⌝ }
 {
     let mut key: Vec<F> = zeros(heap, usize::from(circle.places()))?;
@@ -199,7 +231,12 @@ fn open_new<F: Field>(heap: Global, circle: &Circle<F>, cards: &[Card<'_, F>]) -
 }
 
 // Opens the cards that tokens state, with nothing said before.
-fn open_cards<F: Field>(heap: Global, circle: &Circle<F>, tokens: &[Token], said: &mut Vec<u32>) -> Result<Answer, AllocError>
+fn open_cards<F: Field>(
+    heap: Global,
+    circle: &Circle<F>,
+    tokens: &[Token],
+    said: &mut Vec<u32>,
+) -> Result<Answer, AllocError>
     requires blank { ⌜ vec-items (now said) ≡ [] ⌝ }
     requires stand { ⌜ open-stands (finite .size) (sections (now tokens)) ≡ true ⌝ }
     ensures { λ r. ⌜ made r (λ a. said-of a (vec-items (now (said .exit))) ≡ open-said ops finite points (equality .same) (Some (facts (now (circle .entry)))) (map stated (cards (now (tokens .entry))))) ⌝ }
@@ -258,7 +295,12 @@ impl<F: Field> Desk<F> {
     }
 
     // `K`: shows a holder's card.
-    pub(crate) fn show(&self, heap: Global, id: u8, said: &mut Vec<u32>) -> Result<Answer, AllocError>
+    pub(crate) fn show(
+        &self,
+        heap: Global,
+        id: u8,
+        said: &mut Vec<u32>,
+    ) -> Result<Answer, AllocError>
         ensures { λ r. ⌜ made r (λ a. said-of a (vec-items (now (said .exit))) ≡ show-said ops finite points (kept (now (self .entry)) .circle) (kept (now (self .entry)) .table) id) ⌝ }
     {
         said.clear();
@@ -269,7 +311,12 @@ impl<F: Field> Desk<F> {
     }
 
     // `O`: opens the key from the cards that tokens state.
-    pub(crate) fn open(&self, heap: Global, tokens: &[Token], said: &mut Vec<u32>) -> Result<Answer, AllocError>
+    pub(crate) fn open(
+        &self,
+        heap: Global,
+        tokens: &[Token],
+        said: &mut Vec<u32>,
+    ) -> Result<Answer, AllocError>
         requires { ⌜ open-stands (finite .size) (sections (now tokens)) ≡ true ⌝ }
         ensures { λ r. ⌜ made r (λ a. said-of a (vec-items (now (said .exit))) ≡ open-said ops finite points (equality .same) (kept (now (self .entry)) .circle) (map stated (cards (now (tokens .entry))))) ⌝ }
     {

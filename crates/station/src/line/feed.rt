@@ -12,8 +12,8 @@ use super::Took;
 const MOST: usize = 8191;
 
 impl Line {
-    /// A line with nothing in it.
-    pub fn new() -> Line
+    // A line with nothing in it.
+    pub(crate) fn new() -> Line
         ensures held { λ r. ⌜ held r ≡ [] ⌝ }
         ensures over { λ r. ⌜ r .over ≡ false ⌝ }
     {
@@ -24,8 +24,8 @@ impl Line {
         }
     }
 
-    /// Takes one byte of the input.
-    pub fn take(&mut self, byte: u8) -> Took
+    // Takes one byte of the input.
+    pub(crate) fn take(&mut self, byte: u8) -> Took
         ensures held { λ _. ⌜ held (now (self .exit)) ≡ bytes-after (now (self .entry)) byte ⌝ }
         ensures over { λ _. ⌜ now (self .exit) .over ≡ over-after (now (self .entry)) byte ⌝ }
         ensures value { λ r. ⌜ r ≡ took (now (self .entry)) byte ⌝ }
@@ -50,22 +50,22 @@ impl Line {
         self.len += 1;
     }
 
-    /// The line's bytes, without its newline.
-    pub fn bytes(&self) -> &[u8]
+    // The line's bytes, without its newline.
+    pub(crate) fn bytes(&self) -> &[u8]
         ensures { λ r. ⌜ now r ≡ held (now (self .entry)) ⌝ }
     {
         &self.bytes[0..self.len]
     }
 
-    /// Is there a byte since the last line's end?
-    pub fn is_begun(&self) -> bool
+    // Is there a byte since the last line's end?
+    pub(crate) fn is_begun(&self) -> bool
         ensures { λ r. ⌜ r ≡ begun (now (self .entry)) ⌝ }
     {
         self.len > 0
     }
 
-    /// Begins a new line, and overwrites the old one with zeros.
-    pub fn clear(&mut self)
+    // Begins a new line, and overwrites the old one with zeros.
+    pub(crate) fn clear(&mut self)
         ensures held { λ _. ⌜ held (now (self .exit)) ≡ [] ⌝ }
         ensures over { λ _. ⌜ now (self .exit) .over ≡ false ⌝ }
         ensures zeros { λ _. ⌜ now (self .exit) .bytes ≡ replicate 8192 0 ⌝ }

@@ -1,4 +1,5 @@
-// Answering lines.
+//! Answering lines.
+
 ghost use mathlib.Core.Bool.{true};
 ghost use mathlib.Core.List.{[]};
 ghost use mathlib.Core.Path.{_≡_};
@@ -25,19 +26,31 @@ use fields::prime::PrimeField;
 use std::alloc::AllocError;
 use std::alloc::Global;
 
-// A line that is not of the form, and a step that the present state does not allow.
+/// A line that is not of the form, and a step that the present state does not allow.
 pub const NOT_OF_FORM: u8 = 1;
+
 const NOT_ALLOWED: u8 = 2;
 
 // Does a step at the desk of a field that is named.
-fn step_at<F: Field>(heap: Global, desk: &mut Desk<F>, step: Step<'_>, said: &mut Vec<u32>) -> Result<Answer, AllocError>
+fn step_at<F: Field>(
+    heap: Global,
+    desk: &mut Desk<F>,
+    step: Step<'_>,
+    said: &mut Vec<u32>,
+) -> Result<Answer, AllocError>
     requires { ⌜ step-stands (finite .size) step ≡ true ⌝ }
     ensures said { λ r. ⌜ made r (λ a. said-of a (vec-items (now (said .exit))) ≡ desk-said ops finite points (equality .same) (kept (now (desk .entry))) (meaning (step .entry))) ⌝ }
     ensures kept { λ r. ⌜ made r (λ _. kept (now (desk .exit)) ≡ desk-kept ops finite points (equality .same) (kept (now (desk .entry))) (meaning (step .entry))) ⌝ }
 {
     match step {
         Step::Name(_) => Ok(Answer::No(NOT_ALLOWED)),
-        Step::Deal { threshold, places, ids, key, numbers } => desk.deal(heap, threshold, places, ids, key, numbers, said),
+        Step::Deal {
+            threshold,
+            places,
+            ids,
+            key,
+            numbers,
+        } => desk.deal(heap, threshold, places, ids, key, numbers, said),
         Step::Show(id) => desk.show(heap, id, said),
         Step::Open(tokens) => desk.open(heap, tokens, said),
     }
@@ -68,7 +81,12 @@ impl Station {
     }
 
     // Does a step.
-    fn step(&mut self, heap: Global, step: Step<'_>, said: &mut Vec<u32>) -> Result<Answer, AllocError>
+    fn step(
+        &mut self,
+        heap: Global,
+        step: Step<'_>,
+        said: &mut Vec<u32>,
+    ) -> Result<Answer, AllocError>
         requires blank { ⌜ vec-items (now said) ≡ [] ⌝ }
         requires stands { ⌜ step-stands (element-size (state (now self))) step ≡ true ⌝ }
         ensures said { λ r. ⌜ made r (λ a. said-of a (vec-items (now (said .exit))) ≡ step-said (state (now (self .entry))) (meaning (step .entry))) ⌝ }
@@ -88,8 +106,14 @@ impl Station {
         }
     }
 
-    // Answers a line without its newline. What is said after `ok` is put into `said`; `room` is for the line's tokens.
-    pub fn answer(&mut self, heap: Global, line: &[u8], room: &mut Vec<Token>, said: &mut Vec<u32>) -> Result<Answer, AllocError>
+    /// Answers a line without its newline. What is said after `ok` is put into `said`; `room` is for the line's tokens.
+    pub fn answer(
+        &mut self,
+        heap: Global,
+        line: &[u8],
+        room: &mut Vec<Token>,
+        said: &mut Vec<u32>,
+    ) -> Result<Answer, AllocError>
         ensures said { λ r. ⌜ made r (λ a. said-of a (vec-items (now (said .exit))) ≡ line-said (state (now (self .entry))) (now (line .entry))) ⌝ }
         ensures state { λ r. ⌜ made r (λ _. state (now (self .exit)) ≡ line-state (state (now (self .entry))) (now (line .entry))) ⌝ }
     {

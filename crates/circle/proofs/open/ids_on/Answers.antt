@@ -20,8 +20,8 @@ loop-i-again g c =
     let read = id-read cards i within card (c .index-cards-i .is) in (
       length-set (c .loop-i .ids) i (card .id) ∙ c .loop-i .inv .0,
       take-more-set (c .loop-i .ids) i (card .id) room
-      ∙ ap₂ (λ front last. front ++ last ∷ []) (c .loop-i .inv .1) read
-      ∙ sym (take-more whole i 0 less),
+          ∙ ap₂ (λ front last. front ++ last ∷ []) (c .loop-i .inv .1) read
+          ∙ sym (take-more whole i 0 less),
     )
 
 pub returns : need.returns

@@ -76,5 +76,5 @@ returns g c =
     record {
       answer = search needs;
       key = c .if-not-settle .ensures tt .key
-      ∙ ap₂ (λ cs n. map (opened (m .ops) (m .points .at) cs) (counting 0 n)) (sym (take-map face t cards)) (c .if-key-places .left);
+          ∙ ap₂ (λ cs n. map (opened (m .ops) (m .points .at) cs) (counting 0 n)) (sym (take-map face t cards)) (c .if-key-places .left);
     }

@@ -2,8 +2,9 @@
 use mathlib.Core.Path.{_≡_}
 use lib.ListN.{drop}
 use Rattle.station.specs.Grammar.{values}
-use Rattle.station.specs.Script.{each, in-range}
+use Rattle.std.specs.shelf.Lawful.{all-pass}
+use Rattle.station.specs.Script.{in-range}
 use Rattle.station.proofs.script.all_in_range.Given as given
 
 abbrev pub Inv-loop-token : given.InvT-loop-token
-Inv-loop-token l = each (in-range (l .low) (l .high)) (values (drop (l .token-index) (l .section))) ≡ each (in-range (l .low) (l .high)) (values (l .section))
+Inv-loop-token l = all-pass (in-range (l .low) (l .high)) (values (drop (l .token-index) (l .section))) ≡ all-pass (in-range (l .low) (l .high)) (values (l .section))

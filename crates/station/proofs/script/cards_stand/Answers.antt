@@ -1,6 +1,7 @@
 use mathlib.Core.Path.{sym, ap, _∙_}
 use Rattle.station.specs.Grammar.{before, is-slash, values}
-use Rattle.station.specs.Script.{Stated, each, card-stands, cards}
+use Rattle.std.specs.shelf.Lawful.{all-pass}
+use Rattle.station.specs.Script.{Stated, card-stands, cards}
 use Rattle.station.specs.declared.script.Card.{Card}
 use Rattle.station.proofs.script.Laws.{cards-start, cards-end, cards-refused, card-refused, card-passed, card-shorter}
 use Rattle.station.proofs.script.cards_stand.Needs as need
@@ -13,7 +14,7 @@ pub loop-left-holds : need.loop-left-holds
 loop-left-holds c =
     let start = cards-start (c .args .tokens .now) _ (c .section .ensures .long) in (
       ap (before is-slash) (c .rest-left .ensures) ∙ start .0,
-      ap (λ ts. each (card-stands (c .args .size)) (cards ts)) (c .rest-left .ensures) ∙ ap (each (card-stands (c .args .size))) (start .1),
+      ap (λ ts. all-pass (card-stands (c .args .size)) (cards ts)) (c .rest-left .ensures) ∙ ap (all-pass (card-stands (c .args .size))) (start .1),
     )
 
 pub loop-left-less : need.loop-left-less

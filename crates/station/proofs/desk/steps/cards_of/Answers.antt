@@ -71,6 +71,6 @@ loop-card-again g c =
       walk .0,
       walk .1,
       cards-more (m .ops) (m .finite) (m .points) tokens left at (inv .0) card rest found
-      (vec-items (c .loop-card .all)) (vec-items (c .push .last .self)) _ _
-      (c .in-Continue-push .ensures tt .items) (ap (λ s. record { id = card .id; epoch = card .epoch; shares = s }) shares) (walk .3) (inv .3),
+          (vec-items (c .loop-card .all)) (vec-items (c .push .last .self)) _ _
+          (c .in-Continue-push .ensures tt .items) (ap (λ s. record { id = card .id; epoch = card .epoch; shares = s }) shares) (walk .3) (inv .3),
     )
