@@ -1,11 +1,14 @@
 -- What is chosen for a modulus, and what the field of its residues has by it. Assumes nothing.
 use mathlib.Core.Path.{_≡_, refl, sym, ap, _∙_}
-use Prim.Native.Nat.{ℕ, _%_, _^_, _<_, _≤_}
+use mathlib.Core.Bool.{Bool, true, _&&_}
+use Prim.Native.Nat.{ℕ, _-_, _%_, _^_, _<_, _≤_}
 use native.Mathlib.Nat as nat
 use native.Mathlib.Omega.{arith}
+use lib.Dec.{leb, ltb}
+use Rattle.std.proofs.shelf.Tests.{and-parts, leb-true, ltb-true}
 use Rattle.fields.specs.Field.{Ops, Points, Forms, Finite}
 use Rattle.fields.specs.Residue.{residue, operations, Width, single, double, count, span, form}
-use Rattle.fields.specs.ResidueLaws.{Prime, residue-≡, form-length, form-small, form-apart, count-some, count-few}
+use Rattle.fields.specs.ResidueLaws.{Prime, inverts, residue-≡, form-length, form-small, form-apart, count-some, count-few}
 use Rattle.fields.specs.declared.residue.Residue.{Residue}
 
 -- The largest id, the byte that names the field, and the bytes of an element.
@@ -20,44 +23,39 @@ pub record Chosen (p : ℕ) : Type 0 where
   pub room : p ≤ span width
   pub fits : p ≤ 65536
 
+-- all that is asked of a choice, as one test that is computed: the power p - 2 inverts each residue, and the bounds hold
+abbrev pub stands : (p largest : ℕ) → Width → Bool
+stands p largest width =
+    (ltb 1 p && inverts p (p - 1)) && ((leb 1 largest && leb largest 32) && (ltb largest p && (leb p (span width) && leb p 65536)))
+
+abbrev pub choose : (p largest mark : ℕ) (width : Width) → stands p largest width ≡ true → Chosen p
+choose p largest mark width tested =
+    let parts = and-parts (ltb 1 p && inverts p (p - 1)) ((leb 1 largest && leb largest 32) && (ltb largest p && (leb p (span width) && leb p 65536))) tested in
+    let prime = and-parts (ltb 1 p) (inverts p (p - 1)) (parts .0) in
+    let bounds = and-parts (leb 1 largest && leb largest 32) (ltb largest p && (leb p (span width) && leb p 65536)) (parts .1) in
+    let ids = and-parts (leb 1 largest) (leb largest 32) (bounds .0) in
+    let sizes = and-parts (ltb largest p) (leb p (span width) && leb p 65536) (bounds .1) in
+    let spans = and-parts (leb p (span width)) (leb p 65536) (sizes .1) in
+    record {
+      prime = record { big = ltb-true 1 p (prime .0); tested = prime .1 };
+      largest = largest;
+      mark = mark;
+      width = width;
+      some = leb-true 1 largest (ids .0);
+      few = leb-true largest 32 (ids .1);
+      below = ltb-true largest p (sizes .0);
+      room = leb-true p (span width) (spans .0);
+      fits = leb-true p 65536 (spans .1);
+    }
+
 abbrev pub chosen-13 : Chosen 13
-chosen-13 = record {
-  prime = record { big = omega arith; tested = refl };
-  largest = 12;
-  mark = 1;
-  width = single;
-  some = omega arith;
-  few = omega arith;
-  below = omega arith;
-  room = omega arith;
-  fits = omega arith;
-}
+chosen-13 = choose 13 12 1 single refl
 
 abbrev pub chosen-41 : Chosen 41
-chosen-41 = record {
-  prime = record { big = omega arith; tested = refl };
-  largest = 32;
-  mark = 2;
-  width = single;
-  some = omega arith;
-  few = omega arith;
-  below = omega arith;
-  room = omega arith;
-  fits = omega arith;
-}
+chosen-41 = choose 41 32 2 single refl
 
 abbrev pub chosen-257 : Chosen 257
-chosen-257 = record {
-  prime = record { big = omega arith; tested = refl };
-  largest = 32;
-  mark = 3;
-  width = double;
-  some = omega arith;
-  few = omega arith;
-  below = omega arith;
-  room = omega arith;
-  fits = omega arith;
-}
+chosen-257 = choose 257 32 3 double refl
 
 module _ (p : ℕ) (c : Chosen p) where
   abbrev pub prime-ops : Ops (Residue p)

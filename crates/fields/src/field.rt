@@ -27,16 +27,17 @@ pub trait Field: Copy {
     // The elements, numbered.
     ghost finite: { Finite Self };
 
-    // The largest id that has a point.
+    /// The largest id that has a point.
     const LARGEST_ID: u8;
 
-    // How many bytes an element has.
+    /// How many bytes an element has.
     const BYTES: usize;
 
-    // The byte that names the field.
+    /// The byte that names the field.
     const FIELD_BYTE: u8;
 
-    // No clause can speak of a constant of a trait, so generic code reads these.
+    // No clause can speak of a constant of a trait, so generic code reads these methods.
+
     fn max_id() -> u8
         ensures { λ r. ⌜ r ≡ points .largest ⌝ };
 
@@ -64,38 +65,38 @@ pub trait Field: Copy {
     fn sub(self, other: Self) -> Self
         ensures { λ r. ⌜ r ≡ sub ops self other ⌝ };
 
-    // None for zero, and for zero alone.
+    /// None for zero, and for zero alone.
     fn inverse(self) -> Option<Self>
         ensures { λ r. ⌜ BySome r (self ≡ ops .zero) (λ y. (self ≡ ops .zero → ⊥) × (y ≡ ops .inv self)) ⌝ };
 
     fn same(&self, other: &Self) -> bool
         ensures { λ r. ⌜ r ≡ equality .same (now (self .entry)) (now (other .entry)) ⌝ };
 
-    // The point of an id from 1 to the largest, and None for any other number.
+    /// The point of an id from 1 to the largest, and None for any other number.
     fn point(id: u8) -> Option<Self>
         ensures { λ r. ⌜ BySome r (1 ≤ id → id ≤ points .largest → ⊥) (λ x. (1 ≤ id) × (id ≤ points .largest) × (x ≡ points .at id)) ⌝ };
 
-    // The byte form, with zeros after it up to four bytes.
+    /// The byte form, with zeros after it up to four bytes.
     fn write(self) -> [u8; 4]
         ensures { λ r. ⌜ r ≡ forms .bytes self ++ replicate (4 - forms .width) 0 ⌝ };
 
-    // The element whose byte form this is, if there is one.
+    /// The element whose byte form this is, if there is one.
     fn read(form: &[u8]) -> Option<Self>
         ensures { λ r. ⌜ BySome r ((x : Self) → forms .bytes x ≡ now (form .entry) → ⊥) (λ x. forms .bytes x ≡ now (form .entry)) ⌝ };
 
-    // How many elements there are, less one.
+    /// How many elements there are, less one.
     fn largest_number() -> u32
         ensures { λ r. ⌜ r ≡ finite .size - 1 ⌝ };
 
-    // The number by which a script names the element.
+    /// The number by which a script names the element.
     fn number(self) -> u32
         ensures { λ r. ⌜ r ≡ finite .number self ⌝ };
 
-    // The element of a number, if there is one.
+    /// The element of a number, if there is one.
     fn element(number: u32) -> Option<Self>
         ensures { λ r. ⌜ BySome r (finite .size ≤ number) (λ x. (number < finite .size) × (finite .number x ≡ number)) ⌝ };
 
-    // A row of 32 elements: the size of a type parameter is not known, so generic code can make no array of it.
+    /// A row of 32 elements: the size of a type parameter is not known, so generic code can make no array of it.
     type Row: Drop;
 
     // What a row holds.
@@ -104,11 +105,11 @@ pub trait Field: Copy {
     fn blank_row() -> Self::Row
         ensures { λ r. ⌜ held r ≡ replicate 32 (ops .zero) ⌝ };
 
-    // Past the row's end nothing is written.
+    /// Past the row's end nothing is written.
     fn put(row: &mut Self::Row, i: usize, x: Self)
         ensures { λ _. ⌜ held (now (row .exit)) ≡ set (held (now (row .entry))) i x ⌝ };
 
-    // Zero past the row's end.
+    /// Zero past the row's end.
     fn get(row: &Self::Row, i: usize) -> Self
         ensures { λ r. ⌜ r ≡ getD (held (now (row .entry))) i (ops .zero) ⌝ };
 }
