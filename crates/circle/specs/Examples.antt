@@ -11,7 +11,8 @@ use Rattle.fields.specs.Residue.{residue}
 use Rattle.fields.specs.ResidueLaws.{equality}
 use Rattle.fields.specs.declared.residue.Residue.{Residue}
 use Rattle.circle.specs.Deal.{deal-answer, deal-table}
-use Rattle.circle.specs.Open.{Face, ids-of, open-answer, open-key}
+use Rattle.circle.specs.Open.{Face, open-answer, open-key}
+use Rattle.circle.specs.OpenParts.{ids-of}
 use Rattle.circle.specs.Polynomial.{constant-of}
 use Rattle.circle.specs.State.{Facts}
 

@@ -1,11 +1,13 @@
 pub mod Lists
 pub mod Ids
 pub mod Polynomial
+pub mod PolynomialParts
 pub mod Table
 pub mod Denial
 pub mod State
 pub mod Deal
 pub mod Card
 pub mod Open
+pub mod OpenParts
 pub mod DealLaws
 pub mod Examples

@@ -1,8 +1,7 @@
 -- What opening answers, and what it leaves in the key buffer. Assumes nothing.
 use mathlib.Core.Bool.{Bool, true, cond, _&&_, _||_, not}
 use mathlib.Core.List.{List, [], _∷_, map}
-use mathlib.Core.Path.{_≡_}
-use Prim.Native.Nat.{ℕ, _≤_}
+use Prim.Native.Nat.{ℕ}
 use lib.Dec.{eqb, ltb}
 use lib.ListN.{length, getD, take, drop}
 use Rattle.std.specs.Iters.{counting}
@@ -12,11 +11,8 @@ use Rattle.fields.specs.Field.{Ops}
 use Rattle.circle.specs.declared.card.Card.{Card}
 use Rattle.circle.specs.declared.denial.Denial.{Denial}
 use Rattle.circle.specs.declared.denial.Denial.the-variants.{NoSuchId, Length, NotOnRoll, TooFewCards, IdTwice, OtherEpoch, OffPolynomial}
-use Rattle.circle.specs.declared.open.Asked.{Asked}
-use Rattle.circle.specs.declared.open.Asked.the-variants.{Point, Places, Roll, Epoch, OtherId}
 use Rattle.circle.specs.Ids.{member, has-point}
 use Rattle.std.specs.shelf.Lawful.{all-pass}
-use Rattle.circle.specs.Lists.{Distinct}
 use Rattle.circle.specs.Polynomial.{interpolated}
 use Rattle.circle.specs.State.{Facts}
 
@@ -32,46 +28,32 @@ face c = record { id = c .id; epoch = c .epoch; shares = c .shares .now }
 abbrev pub faces : {K : Type 0} → List (Card K) → List (Face K)
 faces cards = map face cards
 
-abbrev pub ids-of : {K : Type 0} → List (Face K) → List ℕ
-ids-of cards = map (λ c. c .id) cards
-
 -- ## Tests of a card
 
+-- its id has a point in the field
 abbrev pub id-known : {K : Type 0} → ℕ → Face K → Bool
 id-known largest c = has-point largest (c .id)
 
+-- it has one share for each place
 abbrev pub as-long : {K : Type 0} → ℕ → Face K → Bool
 as-long places c = eqb (length (c .shares)) places
 
+-- its id is on the roll
 abbrev pub on-roll : {K : Type 0} → ℕ → Face K → Bool
 on-roll roll c = member roll (c .id)
 
+-- it is of the epoch
 abbrev pub of-epoch : {K : Type 0} → ℕ → Face K → Bool
 of-epoch epoch c = eqb (c .epoch) epoch
 
+-- it has another id
 abbrev pub other-id : {K : Type 0} → ℕ → Face K → Bool
 other-id id c = not (eqb (c .id) id)
-
--- the test that is asked of a card
-abbrev pub meets : {K : Type 0} → ℕ → Asked → Face K → Bool
-meets largest Point = id-known largest
-meets largest (Places n) = as-long n
-meets largest (Roll roll) = on-roll roll
-meets largest (Epoch e) = of-epoch e
-meets largest (OtherId id) = other-id id
 
 -- no id stands on two cards
 abbrev pub ids-differ : {K : Type 0} → List (Face K) → Bool
 ids-differ [] = true
 ids-differ (c ∷ cs) = all-pass (other-id (c .id)) cs && ids-differ cs
-
--- cards, with their ids, that fix a polynomial at each of so many places
-pub record Fixing {K : Type 0} (largest places : ℕ) (ids : List ℕ) (cards : List (Face K)) : Type 0 where
-  pub few : length cards ≤ 32
-  pub same : ids ≡ ids-of cards
-  pub known : all-pass (has-point largest) ids ≡ true
-  pub different : Distinct ids
-  pub long : all-pass (as-long places) cards ≡ true
 
 -- ## The polynomials through cards
 
@@ -79,13 +61,6 @@ module _ {K : Type 0} (F : Ops K) where
   -- the share at the place p
   abbrev pub share-at : ℕ → Face K → K
   share-at p c = getD (c .shares) p (F .zero)
-
-  abbrev pub shares-at : ℕ → List (Face K) → List K
-  shares-at p cards = map (share-at p) cards
-
-  -- the weight at i, of a list of weights
-  abbrev pub weight-in : List K → ℕ → K
-  weight-in ws i = getD ws i (F .zero)
 
   module _ (at : ℕ → K) where
     -- points and shares at the place p

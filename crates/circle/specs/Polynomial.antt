@@ -3,7 +3,7 @@ use mathlib.Core.Path.{_≡_}
 use mathlib.Core.Logic.{_≢_}
 use mathlib.Core.List.{List, [], _∷_, map}
 use Prim.Native.Nat.{ℕ, _+_, _<_, _≤_}
-use lib.ListN.{length, getD, take, drop}
+use lib.ListN.{length, getD}
 use Rattle.std.specs.shelf.Lists.{All}
 use Rattle.fields.specs.Field.{Ops, sub}
 use Rattle.circle.specs.Lists.{Distinct, others}
@@ -45,15 +45,6 @@ module _ {K : Type 0} (F : Ops K) where
   -- the constant of the i-th of the points
   abbrev pub constant-of : List K → K → ℕ → K
   constant-of ks z i = constant (others ks i) (getD ks i (F .zero)) z
-
-  -- the product of z - k over the points k
-  abbrev pub gaps : List K → K → K
-  gaps [] z = F .one
-  gaps (k ∷ ks) z = F .mul (sub F z k) (gaps ks z)
-
-  -- the same over all points but the i-th
-  abbrev pub gaps-beside : List K → ℕ → K → K
-  gaps-beside ks i z = F .mul (gaps (take i ks) z) (gaps (drop (i + 1) ks) z)
 
   -- the sum of w i times the value over the values, the first of which is the i-th
   abbrev pub weighted : (ℕ → K) → ℕ → List K → K

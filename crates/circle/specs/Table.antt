@@ -1,6 +1,6 @@
 -- A table of 32 elements a place, as one list: the id h, from 1, at the place p, from 0, stands at 32 p + h - 1.
--- `grid` and `filled` are shut, and proofs/table/Grids.antt has what a proof may know of them. Assumes nothing.
-use mathlib.Core.List.{List, map, _++_}
+-- `grid` is shut, and proofs/table/Grids.antt has what a proof may know of it. Assumes nothing.
+use mathlib.Core.List.{List, map}
 use Prim.Native.Nat.{ℕ, _+_, _-_, _*_, _/_, _%_}
 use lib.ListN.{getD, take, drop}
 use Rattle.std.specs.Iters.{counting}
@@ -20,10 +20,6 @@ by-place f k = f (k / 32) (k % 32 + 1)
 -- the table of n places that holds f p h for the id h at the place p
 unfoldable pub grid : {K : Type 0} → ℕ → (ℕ → ℕ → K) → List K
 grid n f = map (by-place f) (counting 0 (32 * n))
-
--- the list t, with f k in place of what stands at k, for each k below i
-unfoldable pub filled : {K : Type 0} → (ℕ → K) → ℕ → List K → List K
-filled f i t = map f (counting 0 i) ++ drop i t
 
 -- the numbers of the place p, of which each place has d
 abbrev pub piece : {K : Type 0} → ℕ → List K → ℕ → List K

@@ -8,7 +8,8 @@ ghost use Prim.Native.Nat.{ℕ, _<_, _≤_};
 ghost use Rattle.circle.specs.Ids.{has-point};
 ghost use Rattle.circle.specs.Lists.{Distinct};
 ghost use Rattle.std.specs.shelf.Lawful.{all-pass};
-ghost use Rattle.circle.specs.Polynomial.{value, gaps, gaps-beside, constant-of, PolynomialLaws};
+ghost use Rattle.circle.specs.Polynomial.{value, constant-of, PolynomialLaws};
+ghost use Rattle.circle.specs.PolynomialParts.{gaps, gaps-beside};
 use fields::field::Field;
 
 /// What a list of numbers comes to at x: Horner's rule, from the highest power down.

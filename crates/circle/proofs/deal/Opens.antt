@@ -20,7 +20,8 @@ use Rattle.circle.specs.Deal.{dealt, deal-table}
 use Rattle.circle.specs.DealLaws.{Dealt-card, Opens}
 use Rattle.circle.specs.Ids.{member, within-largest, has-point}
 use Rattle.circle.specs.Lists.{Distinct}
-use Rattle.circle.specs.Open.{Face, ids-of, id-known, as-long, on-roll, of-epoch, ids-differ, share-at, column, opened, lies-at, lies, open-answer, open-key}
+use Rattle.circle.specs.Open.{Face, id-known, as-long, on-roll, of-epoch, ids-differ, share-at, column, opened, lies-at, lies, open-answer, open-key}
+use Rattle.circle.specs.OpenParts.{ids-of}
 use Rattle.circle.specs.Polynomial.{eval, polynomial, points, Through, interpolated}
 use Rattle.circle.specs.State.{Facts}
 use Rattle.circle.specs.Table.{entry, grid, piece}

@@ -14,7 +14,8 @@ use Rattle.std.specs.shelf.Lawful.{all-pass}
 use Rattle.circle.specs.Lists.{Distinct}
 use Rattle.fields.specs.Field.{Ops}
 use Rattle.circle.specs.Ids.{has-point}
-use Rattle.circle.specs.Open.{Face, face, faces, ids-of, id-known, as-long, other-id, ids-differ, Fixing, share-at, shares-at, weight-in, column}
+use Rattle.circle.specs.Open.{Face, face, faces, id-known, as-long, other-id, ids-differ, share-at, column}
+use Rattle.circle.specs.OpenParts.{ids-of, Fixing, shares-at, weight-in}
 use Rattle.circle.specs.Polynomial.{points, values, constant-of, weighted, interpolated}
 use Rattle.circle.specs.declared.card.Card.{Card}
 use Rattle.circle.proofs.Tests.{each-take}

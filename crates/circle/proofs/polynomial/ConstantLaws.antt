@@ -10,7 +10,8 @@ use Rattle.std.proofs.shelf.Lists.{drop-more, at-drop-more, take-at, drop-at, g
 use Rattle.fields.specs.Field.{Ops, FieldLaws, sub}
 use Rattle.fields.proofs.Ring.{ring, forms}
 use Rattle.circle.specs.Lists.{Distinct, others}
-use Rattle.circle.specs.Polynomial.{points, values, constant, constant-of, gaps, gaps-beside, weighted, interpolated}
+use Rattle.circle.specs.Polynomial.{points, values, constant, constant-of, weighted, interpolated}
+use Rattle.circle.specs.PolynomialParts.{gaps, gaps-beside}
 use Rattle.circle.proofs.Lists.{distinct-middle}
 use Rattle.circle.proofs.polynomial.Lagrange.{combine}
 use Rattle.circle.proofs.polynomial.Unique.{sub≢zero, mul-cancel}

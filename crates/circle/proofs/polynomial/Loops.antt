@@ -14,7 +14,8 @@ use Rattle.fields.specs.Field.{Ops, FieldLaws, Points, sub}
 use Rattle.circle.specs.Ids.{has-point}
 use Rattle.std.specs.shelf.Lawful.{all-pass}
 use Rattle.circle.specs.Lists.{Distinct, others}
-use Rattle.circle.specs.Polynomial.{eval, gaps, gaps-beside, constant, constant-of}
+use Rattle.circle.specs.Polynomial.{eval, constant, constant-of}
+use Rattle.circle.specs.PolynomialParts.{gaps, gaps-beside}
 use Rattle.circle.proofs.polynomial.ConstantLaws.{constant-by-gaps}
 
 -- one coefficient more, downwards

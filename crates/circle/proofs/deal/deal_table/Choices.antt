@@ -1,7 +1,8 @@
 use mathlib.Core.Path.{_≡_}
 use Prim.Native.Nat.{_+_, _-_, _*_}
 use Rattle.circle.specs.Deal.{dealt}
-use Rattle.circle.specs.Table.{by-place, filled}
+use Rattle.circle.specs.Table.{by-place}
+use Rattle.circle.proofs.table.Grids.{filled}
 use Rattle.circle.proofs.deal.deal_table.Given as given
 
 abbrev pub Inv-loop-p : given.InvT-loop-p

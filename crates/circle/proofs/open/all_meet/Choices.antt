@@ -1,7 +1,8 @@
 use mathlib.Core.Path.{_≡_}
 use lib.ListN.{drop}
 use Rattle.std.specs.shelf.Lawful.{all-pass}
-use Rattle.circle.specs.Open.{faces, meets}
+use Rattle.circle.specs.Open.{faces}
+use Rattle.circle.specs.OpenParts.{meets}
 use Rattle.circle.proofs.open.all_meet.Given as given
 
 abbrev pub Inv-loop-card : given.InvT-loop-card

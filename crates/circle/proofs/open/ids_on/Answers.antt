@@ -4,7 +4,8 @@ use Prim.Native.Nat.{_<_}
 use native.Mathlib.Omega.{arith}
 use lib.ListN.{length, getD, take, length-set}
 use Rattle.std.proofs.shelf.Lists.{take-more, take-more-set, take-all, length-map, getD-map}
-use Rattle.circle.specs.Open.{Face, face, faces, ids-of}
+use Rattle.circle.specs.Open.{Face, face, faces}
+use Rattle.circle.specs.OpenParts.{ids-of}
 use Rattle.circle.proofs.open.Cards.{ids-length, id-read}
 use Rattle.circle.proofs.open.ids_on.Needs as need
 

@@ -9,7 +9,8 @@ use lib.ListN.{length, take, drop}
 use Rattle.std.specs.Iters.{counting}
 use Rattle.std.proofs.shelf.Lists.{length-map, take-map, drop-map, take-rest}
 use Rattle.std.specs.shelf.Lawful.{all-pass}
-use Rattle.circle.specs.Open.{face, faces, ids-of, id-known, as-long, Fixing, lies, opened}
+use Rattle.circle.specs.Open.{face, faces, id-known, as-long, lies, opened}
+use Rattle.circle.specs.OpenParts.{ids-of, Fixing}
 use Rattle.circle.proofs.Tests.{each-drop}
 use Rattle.circle.proofs.open.Cards.{fixing-first}
 use Rattle.circle.proofs.open.open.Needs as need

@@ -1,6 +1,6 @@
 use mathlib.Core.Path.{_≡_}
 use Rattle.circle.specs.Open.{faces, opened}
-use Rattle.circle.specs.Table.{filled}
+use Rattle.circle.proofs.table.Grids.{filled}
 use Rattle.circle.proofs.open.recover.Given as given
 
 abbrev pub Inv-loop-p : given.InvT-loop-p

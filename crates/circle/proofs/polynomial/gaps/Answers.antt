@@ -4,7 +4,7 @@ use Prim.Native.Nat.{_+_}
 use lib.ListN.{drop}
 use Rattle.std.proofs.shelf.Lists.{at-drop-all}
 use Rattle.circle.specs.Ids.{has-point}
-use Rattle.circle.specs.Polynomial.{gaps}
+use Rattle.circle.specs.PolynomialParts.{gaps}
 use Rattle.circle.proofs.Tests.{each-at}
 use Rattle.circle.proofs.polynomial.Loops.{gaps-more}
 use Rattle.circle.proofs.polynomial.gaps.Needs as need

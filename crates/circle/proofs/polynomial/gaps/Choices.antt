@@ -1,7 +1,7 @@
 use mathlib.Core.List.{map}
 use mathlib.Core.Path.{_≡_}
 use lib.ListN.{drop}
-use Rattle.circle.specs.Polynomial.{gaps}
+use Rattle.circle.specs.PolynomialParts.{gaps}
 use Rattle.circle.proofs.polynomial.gaps.Given as given
 
 abbrev pub Inv-loop-id : given.InvT-loop-id

@@ -2,7 +2,7 @@ use mathlib.Core.Path.{ap, ap₂, sym, _∙_}
 use Prim.Native.Nat.{_+_}
 use Rattle.std.proofs.shelf.Lists.{take-rest, take-map, drop-map}
 use Rattle.circle.specs.Ids.{has-point}
-use Rattle.circle.specs.Polynomial.{gaps}
+use Rattle.circle.specs.PolynomialParts.{gaps}
 use Rattle.circle.proofs.Tests.{each-take, each-drop}
 use Rattle.circle.proofs.polynomial.gaps_beside.Needs as need
 

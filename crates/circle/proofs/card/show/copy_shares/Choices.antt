@@ -1,5 +1,6 @@
 use mathlib.Core.Path.{_≡_}
-use Rattle.circle.specs.Table.{entry, filled}
+use Rattle.circle.specs.Table.{entry}
+use Rattle.circle.proofs.table.Grids.{filled}
 use Rattle.circle.proofs.card.show.copy_shares.Given as given
 
 abbrev pub Inv-loop-p : given.InvT-loop-p
