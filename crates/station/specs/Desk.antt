@@ -1,6 +1,5 @@
 -- What each step says and keeps at the desk of one field. Assumes nothing.
 use mathlib.Core.Bool.{Bool}
-use mathlib.Core.Path.{_≡_}
 use mathlib.Core.List.{List, [], _∷_, map}
 use mathlib.Core.Logic.{inl, inr}
 use Prim.Native.Nat.{ℕ, _*_, min}
@@ -14,7 +13,7 @@ use Rattle.std.specs.declared.result.Result.{Result}
 use Rattle.std.specs.declared.result.Result.the-variants.{Ok, Err}
 use Rattle.std.proofs.shelf.Tests.{cases-lt}
 use Rattle.fields.specs.Field.{Ops, Points, Finite}
-use Rattle.circle.specs.Card.{show-answer, show-shares, shares-of}
+use Rattle.circle.specs.Card.{show-answer, shares-of}
 use Rattle.circle.specs.Deal.{deal-answer, deal-table}
 use Rattle.circle.specs.Denial.{number}
 use Rattle.circle.specs.Ids.{inserted, size}
@@ -86,11 +85,6 @@ module _ {K : Type 0} (F : Ops K) (fin : Finite K) where
         record { circle = Some c; table = deal-table F (m .at) (Ok c) (elements key) (elements ns) (replicate (32 * min (c .places) 32) (F .zero)) }
     dealt-kept (Err d) key ns old = old
 
-    -- a dealing over new memory: its answer, and the table
-    pub record Dealt-new (threshold places : ℕ) (ids key ns : List ℕ) (answer : Result Facts Denial) (table : List K) : Type 0 where
-      pub answered : answer ≡ dealt-answer threshold places ids key ns
-      pub written : table ≡ deal-table F (m .at) answer (elements key) (elements ns) (replicate (32 * min places 32) (F .zero))
-
     abbrev pub deal-said : Option Facts → ℕ → ℕ → List ℕ → List ℕ → List ℕ → Said
     deal-said None threshold places ids key ns = dealt-reply (dealt-answer threshold places ids key ns)
     deal-said (Some c) threshold places ids key ns = not-allowed
@@ -106,11 +100,6 @@ module _ {K : Type 0} (F : Ops K) (fin : Finite K) where
     shown-reply (Ok _) c id table = ok (id ∷ c .epoch ∷ numbers (shares-of F table id (c .places)))
     shown-reply (Err d) c id table = no (number d)
 
-    -- shares shown in new memory: the answer, and the memory
-    pub record Shown-new (c : Facts) (id : ℕ) (table : List K) (answer : Result (Unit {0}) Denial) (shares : List K) : Type 0 where
-      pub answered : answer ≡ show-answer (m .largest) c id (length table) (c .places)
-      pub written : shares ≡ show-shares F answer c id table (replicate (c .places) (F .zero))
-
     abbrev pub show-said : Option Facts → List K → ℕ → Said
     show-said None table id = not-allowed
     show-said (Some c) table id = shown-reply (show-answer (m .largest) c id (length table) (c .places)) c id table
@@ -125,11 +114,6 @@ module _ {K : Type 0} (F : Ops K) (fin : Finite K) where
     abbrev pub opened-reply : Result (Unit {0}) Denial → Facts → List (Face K) → Said
     opened-reply (Ok _) c cards = ok (numbers (open-key F (m .at) (Ok tt) c cards []))
     opened-reply (Err d) c cards = no (number d)
-
-    -- a key opened in new memory: the answer, and the memory
-    pub record Opened-new (same : K → K → Bool) (c : Facts) (cards : List (Face K)) (answer : Result (Unit {0}) Denial) (key : List K) : Type 0 where
-      pub answered : answer ≡ open-answer F (m .at) same (m .largest) c cards (c .places)
-      pub written : key ≡ open-key F (m .at) answer c cards (replicate (c .places) (F .zero))
 
     abbrev pub open-said : (K → K → Bool) → Option Facts → List Stated → Said
     open-said same None cards = not-allowed
