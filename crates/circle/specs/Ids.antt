@@ -7,7 +7,6 @@ use Prim.Native.Nat.{ℕ, _+_, _-_, _/_, _%_, _^_, _<_, _≤_}
 use lib.Count.{ones}
 use lib.Dec.{ltb, leb, eqb}
 use lib.ListN.{length}
-use Rattle.std.specs.Finite.{nth}
 use Rattle.std.specs.Iters.{counting, yields}
 use Rattle.std.specs.Options.{Cases}
 use Rattle.std.specs.Orderings.{Decides}
@@ -55,10 +54,6 @@ within-largest set largest = eqb (set / 2 ^ largest) 0
 -- every id of the set a is in the set b
 abbrev pub subset : ℕ → ℕ → Bool
 subset a b = all-pass (member b) (members a)
-
--- the lowest id of the set a that is not in the set b
-abbrev pub first-outside : ℕ → ℕ → Option ℕ
-first-outside a b = nth (kept-by (λ h. not (member b h)) (members a)) 0
 
 -- one step through the ids of a set, ascending: its lowest id comes, and those after it are left; or none comes, where the set has none
 abbrev pub Stepped : ℕ → Option ℕ → ℕ → Type 0

@@ -129,18 +129,6 @@ pub fn nth_member(set: u32, k: usize) -> Option<u8>
     None
 }
 
-/// The lowest id of the set that is not in `of`.
-pub fn first_outside(set: u32, of: u32) -> Option<u8>
-    ensures { λ r. ⌜ r ≡ ids.first-outside set of ⌝ }
-{
-    for id in members(set) {
-        if !contains(of, id) {
-            return Some(id);
-        }
-    }
-    None
-}
-
 // The laws of sets of ids, shown once.
 fn laws_shown() -> u8
     ensures { λ _. ⌜ ids.SetLaws ⌝ }
