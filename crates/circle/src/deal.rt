@@ -16,6 +16,7 @@ use crate::ids;
 use crate::polynomial::value;
 use crate::state::Circle;
 use crate::table::piece_of;
+use crate::table::spot;
 use fields::field::Field;
 use std::marker::PhantomData;
 
@@ -54,7 +55,7 @@ fn deal_table<F: Field>(roll: u32, terms: usize, key: &[F], numbers: &[F], table
     for p in 0..key.len() {
         let rest = piece_of(numbers, terms, p);
         for h in 1..=32u8 {
-            table[32 * p + h as usize - 1] = share(roll, h, key[p], rest);
+            table[spot(p, h)] = share(roll, h, key[p], rest);
         }
     }
 }

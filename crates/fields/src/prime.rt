@@ -5,36 +5,39 @@ ghost use Prim.Native.Nat.{_<_, _%_, _^_};
 ghost use Rattle.fields.specs.Modulus.{prime-ops, prime-points, prime-forms, prime-finite};
 ghost use Rattle.fields.specs.Residue.{plus, minus, times, power};
 ghost use Rattle.fields.specs.ResidueLaws.{prime-laws, equality};
+ghost use Rattle.fields.specs.declared.residue.Residue.{Residue};
 ghost use Rattle.std.specs.Options.{Cases as BySome};
 use crate::field::Field;
 use crate::modulus::Modulus;
 use crate::residue::Residue;
 
 impl<const P: u16> Residue<P> {
+    // The residue of a value below P.
+    fn of(value: u16) -> Self
+        requires { ⌜ value < P ⌝ }
+        ensures { λ r. ⌜ ((x : Residue P) → x .value ≡ value → r ≡ x) ⌝ }
+    {
+        Residue { value }
+    }
+
     fn sum(self, other: Self) -> Self
         ensures { λ r. ⌜ r ≡ plus P (self .entry) (other .entry) ⌝ }
     {
         let value = (self.value as u32 + other.value as u32) % P as u32;
-        Residue {
-            value: value as u16,
-        }
+        Self::of(value as u16)
     }
 
     fn opposite(self) -> Self
         ensures { λ r. ⌜ r ≡ minus P (self .entry) ⌝ }
     {
-        Residue {
-            value: (P - self.value) % P,
-        }
+        Self::of((P - self.value) % P)
     }
 
     fn product(self, other: Self) -> Self
         ensures { λ r. ⌜ r ≡ times P (self .entry) (other .entry) ⌝ }
     {
         let value = (self.value as u32 * other.value as u32) % P as u32;
-        Residue {
-            value: value as u16,
-        }
+        Self::of(value as u16)
     }
 
     // By squares: a product or two for each digit of the exponent.
@@ -103,11 +106,11 @@ where
     }
 
     fn zero() -> Self {
-        Residue { value: 0 }
+        Self::of(0)
     }
 
     fn one() -> Self {
-        Residue { value: 1 }
+        Self::of(1)
     }
 
     fn add(self, other: Self) -> Self {

@@ -8,6 +8,7 @@ ghost use Rattle.circle.specs.State.{facts};
 use crate::denial::Denial;
 use crate::ids;
 use crate::state::Circle;
+use crate::table::spot;
 use fields::field::Field;
 
 // Writes the shares that the table holds for the id.
@@ -19,7 +20,7 @@ fn copy_shares<F: Field>(id: u8, table: &[F], shares: &mut [F])
     ensures { λ _. ⌜ now (shares .exit) ≡ shares-of ops (now (table .entry)) id (length (now (shares .entry))) ⌝ }
 {
     for p in 0..shares.len() {
-        shares[p] = table[32 * p + id as usize - 1];
+        shares[p] = table[spot(p, id)];
     }
 }
 

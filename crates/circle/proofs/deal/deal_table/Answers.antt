@@ -1,7 +1,7 @@
-use mathlib.Core.Path.{_≡_, sym, _∙_}
+use mathlib.Core.Path.{_≡_, sym, ap, _∙_}
 use Prim.Native.Nat.{_+_, _-_, _*_}
 use native.Mathlib.Omega.{arith}
-use lib.ListN.{length}
+use lib.ListN.{length, set}
 use Rattle.std.proofs.shelf.Lists.{getD-read}
 use Rattle.circle.specs.Deal.{dealt}
 use Rattle.circle.proofs.table.Grids.{filled-none, filled-all, row-starts, row-writes, row-ends, piece-end}
@@ -24,7 +24,8 @@ loop-h-again g c =
     let f = dealt (m .ops) (m .points .at) (c .args .roll) (c .args .terms) (c .args .key .now) (c .args .numbers .now) in
     let first = getD-read (c .args .key .now) p (c .index-key-p .result) (c .loop-p-test .taken) (c .index-key-p .is) (m .ops .zero) in
     let new : c .share .result ≡ f p h = cc in
-    row-writes f (c .loop-p .table) (c .loop-h .table) p h (c .share .result) (c .loop-h .inv) (omega arith) (omega arith) (omega arith) new
+    ap (λ k. set (c .loop-h .table) k (c .share .result)) (c .spot .ensures)
+    ∙ row-writes f (c .loop-p .table) (c .loop-h .table) p h (c .share .result) (c .loop-h .inv) (omega arith) (omega arith) (omega arith) new
 
 pub loop-p-again : need.loop-p-again
 loop-p-again g c =

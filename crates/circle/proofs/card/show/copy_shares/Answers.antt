@@ -3,7 +3,7 @@ use Prim.Native.Nat.{ℕ, _<_}
 use native.Mathlib.Omega.{arith}
 use lib.ListN.{length, set}
 use Rattle.std.proofs.shelf.Lists.{getD-read}
-use Rattle.circle.specs.Table.{spot, entry}
+use Rattle.circle.specs.Table.{entry}
 use Rattle.circle.proofs.table.Grids.{filled-none, filled-more, filled-whole}
 use Rattle.circle.proofs.card.show.copy_shares.Needs as need
 
@@ -16,10 +16,11 @@ loop-p-again g c =
     let table = c .args .table .now in
     let id = c .args .id in
     let p = c .loop-p .p in
-    let within : spot p id < length table = omega arith in
-    let read = getD-read table (spot p id) (c .index-table-p .result) within (c .index-table-p .is) (F .zero) in
-    ap (λ u. set u p (c .index-table-p .result)) (c .loop-p .inv)
-    ∙ filled-more (λ q. entry (F .zero) table q id) (c .args .shares .now) p (c .index-table-p .result) (c .loop-p-test .taken) read
+    let within : c .spot .result < length table = omega arith in
+    let read = getD-read table (c .spot .result) (c .index-table-spot .result) within (c .index-table-spot .is) (F .zero) in
+    let share : c .index-table-spot .result ≡ entry (F .zero) table p id = cc in
+    ap (λ u. set u p (c .index-table-spot .result)) (c .loop-p .inv)
+    ∙ filled-more (λ q. entry (F .zero) table q id) (c .args .shares .now) p (c .index-table-spot .result) (c .loop-p-test .taken) share
 
 pub returns : need.returns
 returns g c =

@@ -1,6 +1,0 @@
-use mathlib.Core.Path.{refl}
-use Rattle.fields.specs.ResidueLaws.{residue-≡}
-use Rattle.fields.proofs.residue.Residue.product.Needs as need
-
-pub returns : need.returns
-returns g c = residue-≡ refl
