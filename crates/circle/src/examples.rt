@@ -2,8 +2,6 @@
 
 ghost use Rattle.circle.specs.Examples.{Examples};
 
-pub fn worked_examples() -> u8
+pub fn worked_examples()
     ensures { λ _. ⌜ Examples ⌝ }
-{
-    0
-}
+{}

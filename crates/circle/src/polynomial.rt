@@ -97,8 +97,6 @@ pub(crate) fn constants<F: Field>(ids: &[u8], z: F) -> F::Row
 }
 
 /// The theorems on polynomials that sharing rests on: nothing is done here.
-pub fn polynomial_laws<F: Field>() -> u8
+pub fn polynomial_laws<F: Field>()
     ensures { λ _. ⌜ PolynomialLaws ops ⌝ }
-{
-    0
-}
+{}

@@ -73,6 +73,7 @@ pub fn answer_all(rt: &LibcRuntime) -> io::Result<()> {
             break;
         }
         feed(heap, &mut out, &mut run, &chunk[0..n])?;
+        out.flush()?;
     }
     if run.line.is_begun() {
         say(&mut out, Answer::No(NOT_OF_FORM), &[])?;

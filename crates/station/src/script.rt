@@ -322,8 +322,6 @@ pub(crate) fn parse<'a>(
 }
 
 /// The laws of the grammar: a line of the form is the one spelling of its step.
-pub fn grammar_laws() -> u8
+pub fn grammar_laws()
     ensures { λ _. ⌜ Grammar-laws ⌝ }
-{
-    0
-}
+{}
