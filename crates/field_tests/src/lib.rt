@@ -1,4 +1,6 @@
-//! Tests of the fields at numbers: what no clause can say of a trait's constants, and what is worth seeing run.
+//! Tests of the fields at numbers: what no clause says of a trait's constants, and what is worth seeing run.
+
+#![tactic(auto)]
 
 #[cfg(test)]
 mod tests {

@@ -1,5 +1,5 @@
 -- How to call `ring`. Assumes nothing.
-use Rattle.std.proofs.Common.{◌≡◌, ℕ, ◌+◌, ◌*◌, ◌%◌, List, [], ◌∷◌, refl, ap, ◌∙◌}
+use Rattle.std.proofs.Common.{◌≡◌, ℕ, ◌+◌, ◌*◌, ◌%◌, [], ◌∷◌, refl, ap, ◌∙◌}
 use Rattle.fields.specs.Field.{Ops, RingLaws, sub}
 use Rattle.fields.proofs.Ring.{ring, ring_expr, forms, from_one, from_two, var, ◌:+◌, ◌:*◌, :-◌}
 

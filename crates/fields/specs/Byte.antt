@@ -1,6 +1,6 @@
 -- The bytes as FIPS 197 defines them in its section 4: a byte stands for the polynomial over the field of two elements whose
 -- coefficient of x ^ k is its bit k. Polynomials of any degree are numbers in the same way. Assumes nothing.
-use Rattle.std.specs.Prelude.{◌≡◌, ℕ, zero, suc, ◌+◌, ◌-◌, ◌*◌, ◌/◌, ◌%◌, ◌^◌, ◌<◌, cond, bit_xor, nat_lt}
+use Rattle.std.specs.Prelude.{◌≡◌, ℕ, zero, suc, ◌+◌, ◌*◌, ◌/◌, ◌%◌, ◌^◌, ◌<◌, cond, bit_xor, nat_lt}
 use Rattle.std.proofs.Common.{mod-lt, arith}
 use Rattle.fields.specs.Field.{Ops}
 use Rattle.fields.specs.declared.byte.Byte.{Byte}

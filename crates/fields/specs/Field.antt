@@ -1,6 +1,6 @@
 -- What a finite field is, with the points of its ids, and the bytes and numbers of its elements. Assumes nothing.
 use Rattle.std.specs.Prelude.{◌≡◌, ℕ, ◌^◌, ◌<◌, ◌≤◌, Bool, ◌≢◌, List, length, Decides}
-use Rattle.std.specs.List.{AllByRecursion as All}
+use Rattle.std.specs.List.{AllByRecursion}
 
 -- The operations. `inv` is total, so that a quotient is a formula; nothing is said of the inverse of zero.
 pub record Ops (K : Type 0) : Type 0 where
@@ -54,7 +54,7 @@ pub record Forms (K : Type 0) : Type 0 where
   pub some : 1 ≤ width
   pub few : width ≤ 4
   pub wide : (x : K) → length (bytes x) ≡ width
-  pub small : (x : K) → All (λ b. b < 256) (bytes x)
+  pub small : (x : K) → AllByRecursion (λ b. b < 256) (bytes x)
   pub apart : (x y : K) → bytes x ≡ bytes y → x ≡ y
 
 -- The elements, numbered from 0 up to the size.

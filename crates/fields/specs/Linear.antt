@@ -1,6 +1,6 @@
 -- Maps that take sums to sums, where a sum is the exclusive or: two that agree at the powers of two agree. These are proofs:
 -- they stand here since the ghost members of the bytes use them, and a reader need not believe them. Assumes nothing.
-use Rattle.std.specs.Prelude.{◌≡◌, ℕ, zero, suc, ◌*◌, ◌/◌, ◌%◌, ◌^◌, ◌<◌, Bool, true, ◌&&◌, nat_eq, nat_lt, refl}
+use Rattle.std.specs.Prelude.{◌≡◌, ℕ, zero, suc, ◌*◌, ◌/◌, ◌%◌, ◌^◌, ◌<◌, Bool, true, ◌&&◌, nat_eq, nat_lt}
 use Rattle.std.proofs.Common.{sym, ap, ap₂, ◌∙◌, subst, ⊎_elim, arith, pow_pos}
 use Rattle.std.proofs.Math.Nat as nat
 use Rattle.std.proofs.Math.Arith.{lt-one}

@@ -1,5 +1,5 @@
 -- The numbers below p, with the sum and the product modulo p. Assumes nothing.
-use Rattle.std.specs.Prelude.{◌≡◌, ℕ, ◌+◌, ◌-◌, ◌*◌, ◌/◌, ◌%◌, ◌^◌, ◌<◌, ◌≤◌, List, [], ◌∷◌}
+use Rattle.std.specs.Prelude.{ℕ, ◌+◌, ◌-◌, ◌*◌, ◌/◌, ◌%◌, ◌^◌, ◌<◌, List, [], ◌∷◌}
 use Rattle.std.proofs.Common.{mod-lt, arith}
 use Rattle.fields.specs.Field.{Ops}
 use Rattle.fields.specs.declared.residue.Residue.{Residue}

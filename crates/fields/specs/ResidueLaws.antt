@@ -1,14 +1,14 @@
 -- The residues modulo p are a field if each but zero has an inverse. These are proofs: they stand here since the ghost
 -- members of the field hold them, and a reader need not believe them. Assumes nothing.
-use Rattle.std.specs.Prelude.{◌≡◌, ℕ, zero, suc, ◌+◌, ◌-◌, ◌*◌, ◌/◌, ◌%◌, ◌^◌, ◌<◌, ◌≤◌, Bool, true, false, ◌&&◌, T, length, ◌==◌, refl}
-use Rattle.std.proofs.Common.{sym, ap, subst, ◌∙◌, ⊎_elim, arith, eqb→eq, eq-eqb}
+use Rattle.std.specs.Prelude.{◌≡◌, ℕ, zero, suc, ◌+◌, ◌-◌, ◌*◌, ◌/◌, ◌%◌, ◌^◌, ◌<◌, ◌≤◌, Bool, true, ◌&&◌, length, ◌==◌, refl}
+use Rattle.std.proofs.Common.{sym, ap, subst, ◌∙◌, ⊎_elim, arith, eq-eqb}
 use mathlib.Core.HLevel.{is_prop→PathP}
 use Rattle.std.proofs.Math.Nat as nat
 use Rattle.std.proofs.Math.Bridge.{le_prop}
-use Rattle.std.specs.List.{AllByRecursion as All}
+use Rattle.std.specs.List.{AllByRecursion}
 use Rattle.std.proofs.lemmas.Bool.{and_parts, eqb-true}
-use Rattle.fields.specs.Field.{Ops, RingLaws, FieldLaws, Equality, Points, Forms, Finite}
-use Rattle.fields.specs.Residue.{residue, operations, Width, single, double, count, span, form}
+use Rattle.fields.specs.Field.{Ops, RingLaws, FieldLaws, Equality}
+use Rattle.fields.specs.Residue.{operations, Width, single, double, count, span, form}
 use Rattle.fields.specs.declared.residue.Residue.{Residue}
 
 -- the invariant has one proof, so residues are equal where their values are
@@ -85,7 +85,7 @@ pub form_length : (w : Width) (v : ℕ) → length (form w v) ≡ count w
 form_length single v = refl
 form_length double v = refl
 
-pub form_small : (w : Width) (v : ℕ) → v < span w → All (λ b. b < 256) (form w v)
+pub form_small : (w : Width) (v : ℕ) → v < span w → AllByRecursion (λ b. b < 256) (form w v)
 form_small single v less = (less, tt)
 form_small double v less = (omega arith, (omega arith, tt))
 

@@ -32,7 +32,7 @@ pub trait Field: Copy {
     /// The byte that names the field.
     const FIELD_BYTE: u8;
 
-    // No clause can speak of a constant of a trait, so generic code reads these methods.
+    // No clause says what the constants are, so generic code reads these methods.
 
     fn max_id() -> u8
         ensures { result ≡ points.largest };

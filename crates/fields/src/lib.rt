@@ -1,5 +1,7 @@
 //! Finite fields, and the interface that the code above is generic over.
 
+#![tactic(auto)]
+
 pub mod byte;
 pub mod byte_field;
 mod byte_tables;

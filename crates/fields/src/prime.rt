@@ -62,7 +62,7 @@ impl<const P: u16> Residue<P> {
 
 // The power P - 2 is the inverse.
 fn inverse_of<const P: u16, M: Modulus<P>>(x: Residue<P>) -> Option<Residue<P>>
-    ensures { MatchOption result (x.entry ≡ (prime_ops P chosen).zero) (λ y. (x.entry ≢ (prime_ops P chosen).zero) × (y ≡ (prime_ops P chosen).inv x.entry)) }
+    ensures { MatchOption result (x.entry ≡ (prime_ops P M.chosen).zero) (λ y. (x.entry ≢ (prime_ops P M.chosen).zero) × (y ≡ (prime_ops P M.chosen).inv x.entry)) }
 {
     if x.value == 0 {
         return None;
@@ -74,17 +74,17 @@ impl<const P: u16> Field for Residue<P>
 where
     Self: Modulus<P>,
 {
-    ghost ops = { prime_ops P chosen };
+    ghost ops = { prime_ops P ⟦<Residue<P> as Modulus<P>>⟧.chosen };
 
-    ghost laws = { prime_laws P chosen.prime };
+    ghost laws = { prime_laws P ⟦<Residue<P> as Modulus<P>>⟧.chosen.prime };
 
     ghost equality = { equality P };
 
-    ghost points = { prime_points P chosen };
+    ghost points = { prime_points P ⟦<Residue<P> as Modulus<P>>⟧.chosen };
 
-    ghost forms = { prime_forms P chosen };
+    ghost forms = { prime_forms P ⟦<Residue<P> as Modulus<P>>⟧.chosen };
 
-    ghost finite = { prime_finite P chosen };
+    ghost finite = { prime_finite P ⟦<Residue<P> as Modulus<P>>⟧.chosen };
 
     const LARGEST_ID: u8 = <Residue<P> as Modulus<P>>::LARGEST_ID;
 

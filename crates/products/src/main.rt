@@ -1,6 +1,8 @@
 //! Multiplies bytes, to be timed: `products COUNT` makes so many products, each of the two before it. A second count makes
 //! products that do not wait for one another. Prints the last element of each kind as a number.
 
+#![tactic(auto)]
+
 mod chains;
 
 use fields::field::Field;

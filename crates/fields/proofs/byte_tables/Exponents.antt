@@ -1,5 +1,5 @@
 -- The powers of 3: a product of two has the sum of their exponents, and they come round after 255. Assumes nothing.
-use Rattle.std.proofs.Common.{◌≡◌, ℕ, zero, suc, ◌+◌, ◌-◌, ◌*◌, ◌/◌, ◌%◌, ◌<◌, sym, refl, ap, ◌∙◌, ap₂, arith}
+use Rattle.std.proofs.Common.{◌≡◌, ℕ, zero, suc, ◌+◌, ◌-◌, ◌*◌, ◌/◌, ◌%◌, ◌<◌, sym, refl, ap, ◌∙◌, arith}
 use native.Mathlib.Nat as nat
 use Rattle.fields.specs.Byte.{product, remainder, times, inverse}
 use Rattle.fields.specs.ByteProducts.{times_lt, times_comm, times_assoc, one_times, times_inverse, inverse_lt}

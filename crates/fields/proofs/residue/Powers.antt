@@ -1,5 +1,5 @@
 -- Powers modulo p, by squares. Assumes nothing.
-use Rattle.std.proofs.Common.{◌≡◌, ℕ, zero, suc, ◌+◌, ◌*◌, ◌/◌, ◌%◌, ◌^◌, ◌<◌, sym, refl, ap, ◌∙◌, ap₂, arith, pow-add}
+use Rattle.std.proofs.Common.{◌≡◌, ℕ, zero, suc, ◌+◌, ◌*◌, ◌/◌, ◌%◌, ◌^◌, ◌<◌, sym, ap, ◌∙◌, ap₂, arith, pow-add}
 use native.Mathlib.Nat as nat
 use Rattle.fields.specs.ResidueLaws.{mod_mul_mod, mul_mod_mod}
 

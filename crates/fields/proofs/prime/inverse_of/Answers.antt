@@ -1,4 +1,3 @@
-use Rattle.std.proofs.Common.{ap, arith}
 use Rattle.fields.specs.ResidueLaws.{residue_≡}
 use Rattle.fields.proofs.prime.inverse_of.Goals as goal
 

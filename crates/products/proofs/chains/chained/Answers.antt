@@ -11,7 +11,7 @@ pub loop-i-preserved : goal.loop-i-preserved
 unfolding chain
 loop-i-preserved c =
     let product = c.mul.ensures ∙ ap₂ byte_ops.mul c.loop-i.invariant.0 c.loop-i.invariant.1 in
-    rw add-one (c.loop-i.invariant.1, c.add-next.ensures ∙ ap₂ byte_ops.add product c.low-byte.ensures)
+    rw add-one (c.loop-i.invariant.1, c.add-next.ensures ∙ ap₂ byte_ops.add product c.low_byte.ensures)
 
 pub returns : goal.returns
 returns c = let end : c.loop-i.i ≡ c.args.count = omega arith in c.loop-i.invariant.1 ∙ ap (λ n. (chain n).1) end

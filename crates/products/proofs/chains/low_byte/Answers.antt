@@ -9,4 +9,4 @@ found n None x e = absurd (omega (arith, mod-lt n {m = 256} (omega arith)))
 found n (Some y) x e = byte_≡ e.1
 
 pub returns : goal.returns
-returns c = c.unwrap-or.ensures ∙ found c.args.n c.element.result c.zero.result c.element.ensures
+returns c = c.unwrap_or.ensures ∙ found c.args.n c.element.result c.zero.result c.element.ensures

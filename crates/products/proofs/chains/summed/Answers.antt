@@ -10,5 +10,5 @@ loop-i-init c = c.zero-sum.ensures
 pub loop-i-preserved : goal.loop-i-preserved
 unfolding sum_of
 loop-i-preserved c =
-    let product = c.mul.ensures ∙ ap₂ byte_ops.mul c.low-byte.ensures c.low-byte-in-loop-i.ensures in
+    let product = c.mul.ensures ∙ ap₂ byte_ops.mul c.low_byte.ensures c.low_byte-in-loop-i.ensures in
     rw add-one (c.add-sum.ensures ∙ ap₂ byte_ops.add c.loop-i.invariant product)

@@ -1,5 +1,5 @@
 use Rattle.std.proofs.Common.{refl}
 use Rattle.fields.proofs.byte_field.ByteField.inverse.Goals as goal
 
-pub returns-in-err-exponent : goal.returns-in-err-exponent
-returns-in-err-exponent c = rw c.from-residual.ensures (c.in-err-exponent.ensures.zero c.args.self refl)
+pub returns-in_err-exponent : goal.returns-in_err-exponent
+returns-in_err-exponent c = rw c.from_residual.ensures (c.in_err-exponent.ensures.zero c.args.self refl)
