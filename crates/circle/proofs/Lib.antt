@@ -1,2 +1,3 @@
+pub mod rounds
 pub mod Lists
 pub mod Tests

@@ -1,6 +1,6 @@
 -- Tests of each element of a list. The invariant of a loop is that what is left passes as the whole does. Assumes nothing.
 use Rattle.std.proofs.Common.{◌≡◌, ℕ, zero, suc, ◌+◌, ◌-◌, ◌<◌, ◌≤◌, Bool, true, false, ◌&&◌, List, [], ◌∷◌, length, get_or, take, drop, sym, refl, ap, ◌∙◌, arith}
-use Rattle.std.specs.List.{range_with_len, list_all, AllByRecursion as All}
+use Rattle.std.specs.List.{range_with_len, list_all, AllByRecursion}
 use Rattle.std.proofs.lemmas.List.{at_drop_more, at_drop_all}
 use Rattle.std.proofs.lemmas.Bool.{and_parts, and_from}
 
@@ -47,7 +47,7 @@ module _ {A : Type 0} (test : A → Bool) where
   each-drop (suc i) (x ∷ xs) all = each-drop i xs (and_parts (test x) (list_all test xs) all).1
 
 -- a test that holds of whatever has a property
-pub pass_all : {A : Type 0} (P : A → Type 0) (test : A → Bool) → ((x : A) → P x → test x ≡ true) → (xs : List A) → All P xs → list_all test xs ≡ true
+pub pass_all : {A : Type 0} (P : A → Type 0) (test : A → Bool) → ((x : A) → P x → test x ≡ true) → (xs : List A) → AllByRecursion P xs → list_all test xs ≡ true
 pass_all P test holds [] all = refl
 pass_all P test holds (x ∷ xs) all = and_from (test x) (list_all test xs) (holds x all.0) (pass_all P test holds xs all.1)
 

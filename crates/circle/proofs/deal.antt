@@ -2,4 +2,4 @@
 pub mod Rolls
 pub mod Answered
 pub mod Opens
-pub mod Hides
+pub mod Hiding

@@ -6,3 +6,4 @@ pub mod Hiding
 pub mod ConstantLaws
 pub mod Laws
 pub mod Loops
+pub mod Sums

@@ -1,6 +1,6 @@
 -- What dealing comes to: the key opens again, and fewer holders than the threshold learn nothing of it. Assumes nothing.
-use Rattle.std.specs.Prelude.{◌≡◌, ℕ, ◌-◌, ◌*◌, ◌^◌, ◌<◌, ◌≤◌, Bool, true, List, [], ◌∷◌, length, Ok}
-use Rattle.std.specs.List.{AllByRecursion as All}
+use Rattle.std.specs.Prelude.{◌≡◌, ℕ, ◌^◌, ◌<◌, ◌≤◌, Bool, true, List, [], ◌∷◌, length, Ok}
+use Rattle.std.specs.List.{AllByRecursion}
 use Rattle.fields.specs.Field.{Ops, Points}
 use Rattle.circle.specs.Card.{shares_of}
 use Rattle.circle.specs.Deal.{deal_answer, deal_table}
@@ -30,7 +30,7 @@ module _ {K : Type 0} (F : Ops K) where
         (roll threshold places : ℕ) (key numbers table : List K) (c : Facts)
         → deal_answer m.largest roll threshold places (length key) (length numbers) (length table) ≡ Ok c
         → (cards : List (Face K)) → threshold ≤ length cards → ids_differ cards ≡ true
-        → All (DealtCard c (deal_table F m.at (Ok c) key numbers table)) cards
+        → AllByRecursion (DealtCard c (deal_table F m.at (Ok c) key numbers table)) cards
         → (buffer : List K) → length buffer ≡ places
         → (open_answer F m.at same m.largest c cards (length buffer) ≡ Ok tt)
         × (open_key F m.at (Ok tt) c cards buffer ≡ key)

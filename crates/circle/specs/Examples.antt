@@ -1,6 +1,5 @@
 -- Worked examples, in the definitions that the calls use. Assumes nothing.
-use Rattle.std.specs.Prelude.{◌≡◌, ℕ, ◌<◌, List, [], ◌∷◌, map, length, take, replicate, Ok}
-use Rattle.std.proofs.Common.{arith}
+use Rattle.std.specs.Prelude.{◌≡◌, ℕ, List, [], ◌∷◌, map, length, take, replicate, Ok}
 use Rattle.std.specs.List.{range_with_len}
 use Rattle.fields.specs.Modulus.{Chosen, chosen_13, chosen_41, chosen_257, prime_ops, prime_points, prime_forms, positive}
 use Rattle.fields.specs.Residue.{residue}
@@ -8,7 +7,6 @@ use Rattle.fields.specs.ResidueLaws.{equality}
 use Rattle.fields.specs.declared.residue.Residue.{Residue}
 use Rattle.circle.specs.Deal.{deal_answer, deal_table}
 use Rattle.circle.specs.Open.{Face, open_answer, open_key}
-use Rattle.circle.specs.OpenParts.{ids_of}
 use Rattle.circle.specs.Polynomial.{constant_of}
 use Rattle.circle.specs.State.{Facts}
 

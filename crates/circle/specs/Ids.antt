@@ -1,6 +1,6 @@
 -- Sets of holder ids. An id is a number from 1 to 32. A set of ids is a number below 2 ^ 32, whose bit h - 1 tells whether h is in it. Assumes nothing.
-use Rattle.std.specs.Prelude.{◌≡◌, ℕ, ◌+◌, ◌-◌, ◌/◌, ◌%◌, ◌^◌, ◌<◌, ◌≤◌, Bool, true, false, cond, not, ◌&&◌, ◌||◌, ◌≢◌, ◌⊎◌, List, [], ◌∷◌, ◌++◌, length, Decides, filter, Option, MatchOption, ◌==◌, count_ones, nat_le, nat_lt}
-use Rattle.std.specs.List.{range_with_len, list_all, AllByRecursion as All}
+use Rattle.std.specs.Prelude.{◌≡◌, ℕ, ◌+◌, ◌-◌, ◌/◌, ◌%◌, ◌^◌, ◌<◌, ◌≤◌, Bool, true, false, cond, not, ◌&&◌, ◌||◌, List, [], ◌∷◌, ◌++◌, length, Some, Decides, filter, Option, MatchOption, ◌==◌, count_ones, nat_le, nat_lt}
+use Rattle.std.specs.List.{slice_get, range_with_len, list_all, AllByRecursion}
 use Rattle.std.specs.Iterator.{Yields}
 use Rattle.circle.specs.Lists.{In, Distinct}
 
@@ -36,6 +36,10 @@ members set = filter (member set) ids
 abbrev pub size : ℕ → ℕ
 size set = count_ones set
 
+-- how many ids of the set are below h
+abbrev pub rank : ℕ → ℕ → ℕ
+rank set h = size (set % 2 ^ (h - 1))
+
 -- no id of the set is above the largest
 abbrev pub within_largest : ℕ → ℕ → Bool
 within_largest set largest = (set / 2 ^ largest) == 0
@@ -51,7 +55,7 @@ Stepped set r left = MatchOption r (members set ≡ []) (λ h. members set ≡ h
 -- each number of the list is below all that follow it
 abbrev pub Ascends : List ℕ → Type 0
 Ascends [] = Unit {0}
-Ascends (x ∷ xs) = All (λ y. x < y) xs × Ascends xs
+Ascends (x ∷ xs) = AllByRecursion (λ y. x < y) xs × Ascends xs
 
 -- The laws of sets of ids.
 pub record SetLaws : Type 0 where
@@ -73,6 +77,9 @@ pub record SetLaws : Type 0 where
   pub members_ascend : (set : ℕ) → Ascends (members set)
   pub members_distinct : (set : ℕ) → Distinct (members set)
   pub members_size : (set : ℕ) → set < 2 ^ 32 → length (members set) ≡ size set
+  -- a member stands among them behind those that are below it
+  pub member_rank : (set h : ℕ) → set < 2 ^ 32 → member set h ≡ true → slice_get (members set) (rank set h) ≡ Some h
+  pub rank_below : (set h : ℕ) → set < 2 ^ 32 → member set h ≡ true → rank set h < size set
   -- what steps through a set gave, and what is left, are its members
   pub visited : (set left : ℕ) (xs : List ℕ) → Yields Stepped set xs left → members set ≡ xs ++ members left
   -- a part of a set has only what the set has

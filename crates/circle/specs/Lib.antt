@@ -11,3 +11,12 @@ pub mod Open
 pub mod OpenParts
 pub mod DealLaws
 pub mod Examples
+pub mod Lagrange
+pub mod Kind
+pub mod Round
+pub mod Begin
+pub mod Contribute
+pub mod ContributeParts
+pub mod Finish
+pub mod RoundLaws
+pub mod FurtherExamples

@@ -1,6 +1,6 @@
 -- Polynomials as lists of coefficients, the lowest power first; their values, and Lagrange's formula. Assumes nothing.
 use Rattle.std.specs.Prelude.{◌≡◌, ℕ, ◌+◌, ◌<◌, ◌≤◌, ◌≢◌, List, [], ◌∷◌, map, length, slice_index_or}
-use Rattle.std.specs.List.{AllByRecursion as All}
+use Rattle.std.specs.List.{AllByRecursion}
 use Rattle.fields.specs.Field.{Ops, sub}
 use Rattle.circle.specs.Lists.{Distinct, others}
 
@@ -31,7 +31,7 @@ module _ {K : Type 0} (F : Ops K) where
 
   -- f goes through each of the shares
   abbrev pub Through : List K → List (K × K) → Type 0
-  Through f shares = All (λ s. eval f s.0 ≡ s.1) shares
+  Through f shares = AllByRecursion (λ s. eval f s.0 ≡ s.1) shares
 
   -- Lagrange's constant of the point s, for the value at z: the product of (z - k) / (s - k) over the other points k
   abbrev pub constant : List K → K → K → K
@@ -47,6 +47,10 @@ module _ {K : Type 0} (F : Ops K) where
   weighted w i [] = F.zero
   weighted w i (v ∷ vs) = F.add (F.mul (w i) v) (weighted w (i + 1) vs)
 
+  abbrev pub sum : List K → K
+  sum [] = F.zero
+  sum (x ∷ xs) = F.add x (sum xs)
+
   -- the sum of the shares' values, each times its constant at z
   abbrev pub interpolated : List (K × K) → K → K
   interpolated shares z = weighted (constant_of (points shares) z) 0 (values shares)
@@ -55,7 +59,7 @@ module _ {K : Type 0} (F : Ops K) where
 pub record PolynomialLaws {K : Type 0} (F : Ops K) : Type 0 where
   -- n different points fix a polynomial of at most n coefficients
   pub unique : (places f g : List K) → Distinct places → length f ≤ length places → length f ≡ length g
-      → All (λ s. eval F f s ≡ eval F g s) places → f ≡ g
+      → AllByRecursion (λ s. eval F f s ≡ eval F g s) places → f ≡ g
   -- Lagrange's formula: the shares of a polynomial of at most as many coefficients give its value anywhere
   pub lagrange : (shares : List (K × K)) (f : List K) (z : K) → Distinct (points shares) → length f ≤ length shares
       → Through F f shares → eval F f z ≡ interpolated F shares z
@@ -63,5 +67,5 @@ pub record PolynomialLaws {K : Type 0} (F : Ops K) : Type 0 where
   pub through : (shares : List (K × K)) → Distinct (points shares)
       → (f : List K) × (length f ≡ length shares) × Through F f shares
   -- a polynomial of t coefficients is d at zero, and zero at fewer than t points, none of which is zero
-  pub hiding : (known : List K) (t : ℕ) (d : K) → Distinct known → All (λ a. a ≢ F.zero) known → length known < t
-      → (f : List K) × (length f ≡ t) × (eval F f F.zero ≡ d) × All (λ a. eval F f a ≡ F.zero) known
+  pub hiding : (known : List K) (t : ℕ) (d : K) → Distinct known → AllByRecursion (λ a. a ≢ F.zero) known → length known < t
+      → (f : List K) × (length f ≡ t) × (eval F f F.zero ≡ d) × AllByRecursion (λ a. eval F f a ≡ F.zero) known

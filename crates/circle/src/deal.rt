@@ -17,9 +17,9 @@ use fields::field::Field;
 use std::marker::PhantomData;
 
 // The point of the id h, if it is on the roll, which has no id above the field's largest.
-fn point_on<F: Field>(roll: u32, h: u8) -> Option<F>
-    requires { within_largest roll points.largest ≡ true }
-    ensures { MatchOption result (member roll h ≡ false) (λ x. (member roll h ≡ true) × (x ≡ points.at h)) }
+pub(crate) fn point_on<F: Field>(roll: u32, h: u8) -> Option<F>
+    requires { within_largest roll F.points.largest ≡ true }
+    ensures { MatchOption result (member roll h ≡ false) (λ x. (member roll h ≡ true) × (x ≡ F.points.at h)) }
 {
     if ids::contains(roll, h) {
         F::point(h)
@@ -30,8 +30,8 @@ fn point_on<F: Field>(roll: u32, h: u8) -> Option<F>
 
 // The share of the id h, of the polynomial with the constant term `first` and the numbers `rest` after it.
 fn share<F: Field>(roll: u32, h: u8, first: F, rest: &[F]) -> F
-    requires { within_largest roll points.largest ≡ true }
-    ensures { result ≡ share_of ops points.at roll h (polynomial ops first rest.now) }
+    requires { within_largest roll F.points.largest ≡ true }
+    ensures { result ≡ share_of F.ops F.points.at roll h (polynomial F.ops first rest.now) }
 {
     match point_on::<F>(roll, h) {
         Some(x) => first.add(x.mul(value(rest, x))),
@@ -41,12 +41,12 @@ fn share<F: Field>(roll: u32, h: u8, first: F, rest: &[F]) -> F
 
 // Writes every share.
 fn deal_table<F: Field>(roll: u32, terms: usize, key: &[F], numbers: &[F], table: &mut [F])
-    requires known { within_largest roll points.largest ≡ true }
+    requires known { within_largest roll F.points.largest ≡ true }
     requires terms { terms ≤ 32 }
     requires places { length key.now ≤ 32 }
     requires numbers { length numbers.now ≡ length key.now * terms }
     requires table { length table.old ≡ 32 * length key.now }
-    ensures { table.new ≡ grid (length key.now) (dealt ops points.at roll terms key.now numbers.now) }
+    ensures { table.new ≡ grid (length key.now) (dealt F.ops F.points.at roll terms key.now numbers.now) }
 {
     for p in 0..key.len() {
         let rest = piece_of(numbers, terms, p);
@@ -65,8 +65,8 @@ fn tested_deal<F: Field>(
     numbers: &[F],
     table: &mut [F],
 ) -> Result<Circle<F>, Denial>
-    ensures answer { answered result ≡ deal_answer points.largest roll threshold places (length key.now) (length numbers.now) (length table.old) }
-    ensures table { table.new ≡ deal_table ops points.at (answered result) key.now numbers.now table.old }
+    ensures answer { answered result ≡ deal_answer F.points.largest roll threshold places (length key.now) (length numbers.now) (length table.old) }
+    ensures table { table.new ≡ deal_table F.ops F.points.at (answered result) key.now numbers.now table.old }
 {
     if places < 1 || places > 32 {
         return Err(Denial::Places);
@@ -92,6 +92,12 @@ fn tested_deal<F: Field>(
     })
 }
 
+// The laws of dealing, shown once.
+fn laws_shown<F: Field>()
+    ensures opens { Opens F.ops F.points F.equality.same }
+    ensures hides { Hides F.ops F.points }
+{}
+
 /// Deals the key: a share to each id of the roll at each place.
 pub fn deal<F: Field>(
     roll: u32,
@@ -101,10 +107,11 @@ pub fn deal<F: Field>(
     numbers: &[F],
     table: &mut [F],
 ) -> Result<Circle<F>, Denial>
-    ensures answer { answered result ≡ deal_answer points.largest roll threshold places (length key.now) (length numbers.now) (length table.old) }
-    ensures table { table.new ≡ deal_table ops points.at (answered result) key.now numbers.now table.old }
-    ensures opens { Opens ops points equality.same }
-    ensures hides { Hides ops points }
+    ensures answer { answered result ≡ deal_answer F.points.largest roll threshold places (length key.now) (length numbers.now) (length table.old) }
+    ensures table { table.new ≡ deal_table F.ops F.points.at (answered result) key.now numbers.now table.old }
+    ensures opens { Opens F.ops F.points F.equality.same }
+    ensures hides { Hides F.ops F.points }
 {
+    laws_shown::<F>();
     tested_deal(roll, threshold, places, key, numbers, table)
 }

@@ -13,8 +13,20 @@ pub enum Denial {
     Threshold,
     /// A piece handed over has the wrong length.
     Length,
-    /// An id is not on the roll.
+    /// An id is not on the roll, or not among those who contribute.
     NotOnRoll,
+    /// A newcomer is on the roll already.
+    AlreadyOnRoll,
+    /// Helpers are fewer than the threshold, or for an admission not exactly as many.
+    WrongHelpers,
+    /// A dismissal would leave fewer holders than the threshold.
+    TooFewLeft,
+    /// The epoch is 9,999, and the round is no admission.
+    LastEpoch,
+    /// The id has contributed to this round.
+    AlreadyContributed,
+    /// At finish a contribution is missing.
+    ContributionMissing,
     /// Fewer cards than the threshold are listed.
     TooFewCards,
     /// An id is listed twice.
@@ -35,6 +47,12 @@ impl Denial {
             Denial::Threshold => 11,
             Denial::Length => 12,
             Denial::NotOnRoll => 13,
+            Denial::AlreadyOnRoll => 14,
+            Denial::WrongHelpers => 15,
+            Denial::TooFewLeft => 16,
+            Denial::LastEpoch => 17,
+            Denial::AlreadyContributed => 18,
+            Denial::ContributionMissing => 19,
             Denial::TooFewCards => 20,
             Denial::IdTwice => 21,
             Denial::OtherEpoch => 22,

@@ -1,6 +1,6 @@
 //! Sets of holder ids, each held in a `u32`: bit h - 1 for the id h, from 1 to 32.
 
-ghost use Rattle.std.specs.Prelude.{◌≡◌, ℕ, ◌-◌, ◌^◌, ◌<◌, not, [], ◌∷◌, length, MatchOption, ◌==◌, bit_and, bit_or};
+ghost use Rattle.std.specs.Prelude.{◌≡◌, ℕ, ◌-◌, ◌%◌, ◌^◌, ◌<◌, not, [], ◌∷◌, length, MatchOption, ◌==◌, bit_and, bit_or};
 ghost use Rattle.std.specs.List.{slice_get};
 ghost use Rattle.circle.specs.Ids as ids;
 ghost use Rattle.std.specs.Iterator.{at_most};
@@ -47,6 +47,26 @@ pub fn size(set: u32) -> u32
     ensures { result ≡ ids.size set }
 {
     set.count_ones()
+}
+
+// The ids of the set that are below `id`.
+fn below(set: u32, id: u8) -> u32
+    ensures { result ≡ set % 2 ^ (id - 1) }
+{
+    if id == 0 {
+        0
+    } else if id > 32 {
+        set
+    } else {
+        set & (1 << (id - 1)) - 1
+    }
+}
+
+/// How many ids of the set are below `id`.
+pub fn rank(set: u32, id: u8) -> u32
+    ensures { result ≡ ids.rank set id }
+{
+    size(below(set, id))
 }
 
 /// Whether no id of the set is above `largest`.

@@ -31,7 +31,7 @@ pub(crate) enum Asked {
 
 // Whether the card is as asked.
 fn meets_one<F: Field>(asked: Asked, card: &Card<'_, F>) -> bool
-    ensures { result ≡ meets points.largest asked (face card.now) }
+    ensures { result ≡ meets F.points.largest asked (face card.now) }
 {
     match asked {
         Asked::Point => 1 <= card.id && card.id <= F::max_id(),
@@ -44,7 +44,7 @@ fn meets_one<F: Field>(asked: Asked, card: &Card<'_, F>) -> bool
 
 // Whether each card is as asked.
 fn all_meet<F: Field>(asked: Asked, cards: &[Card<'_, F>]) -> bool
-    ensures { result ≡ list_all (meets points.largest asked) (faces cards.now) }
+    ensures { result ≡ list_all (meets F.points.largest asked) (faces cards.now) }
 {
     for card in cards {
         if !meets_one(asked, card) {
@@ -82,7 +82,7 @@ fn ids_on<F: Field>(cards: &[Card<'_, F>]) -> [u8; 32]
 fn total<F: Field>(weights: &F::Row, cards: &[Card<'_, F>], places: usize, p: usize) -> F
     requires within { p < places }
     requires long { list_all (as_long places) (faces cards.now) ≡ true }
-    ensures { result ≡ weighted ops (weight_in ops (held weights.now)) 0 (shares_at ops p (faces cards.now)) }
+    ensures { result ≡ weighted F.ops (weight_in F.ops (F.held weights.now)) 0 (shares_at F.ops p (faces cards.now)) }
 {
     let mut sum = F::zero();
     for (i, card) in cards.iter().enumerate() {
@@ -94,10 +94,10 @@ fn total<F: Field>(weights: &F::Row, cards: &[Card<'_, F>], places: usize, p: us
 
 // Whether the card lies on the polynomials through the first ones.
 fn agrees<F: Field>(ids: &[u8], first: &[Card<'_, F>], card: &Card<'_, F>, places: usize) -> bool
-    requires fixing { Fixing points.largest places ids.now (faces first.now) }
-    requires own { id_known points.largest (face card.now) ≡ true }
+    requires fixing { Fixing F.points.largest places ids.now (faces first.now) }
+    requires own { id_known F.points.largest (face card.now) ≡ true }
     requires long { as_long places (face card.now) ≡ true }
-    ensures { result ≡ lies ops points.at equality.same places (faces first.now) (face card.now) }
+    ensures { result ≡ lies F.ops F.points.at F.equality.same places (faces first.now) (face card.now) }
 {
     let weights = constants::<F>(ids, point_of(card.id));
     let shares = card.shares;
@@ -116,10 +116,10 @@ fn all_agree<F: Field>(
     later: &[Card<'_, F>],
     places: usize,
 ) -> bool
-    requires fixing { Fixing points.largest places ids.now (faces first.now) }
-    requires own { list_all (id_known points.largest) (faces later.now) ≡ true }
+    requires fixing { Fixing F.points.largest places ids.now (faces first.now) }
+    requires own { list_all (id_known F.points.largest) (faces later.now) ≡ true }
     requires long { list_all (as_long places) (faces later.now) ≡ true }
-    ensures { result ≡ list_all (lies ops points.at equality.same places (faces first.now)) (faces later.now) }
+    ensures { result ≡ list_all (lies F.ops F.points.at F.equality.same places (faces first.now)) (faces later.now) }
 {
     for card in later {
         if !agrees(ids, first, card, places) {
@@ -131,8 +131,8 @@ fn all_agree<F: Field>(
 
 // Writes the key: at each place the value at zero of the polynomial through the cards.
 fn recover<F: Field>(ids: &[u8], cards: &[Card<'_, F>], key: &mut [F])
-    requires { Fixing points.largest (length key.old) ids.now (faces cards.now) }
-    ensures { key.new ≡ map (opened ops points.at (faces cards.now)) (range_with_len 0 (length key.old)) }
+    requires { Fixing F.points.largest (length key.old) ids.now (faces cards.now) }
+    ensures { key.new ≡ map (opened F.ops F.points.at (faces cards.now)) (range_with_len 0 (length key.old)) }
 {
     let weights = constants::<F>(ids, F::zero());
     for p in 0..key.len() {
@@ -142,11 +142,11 @@ fn recover<F: Field>(ids: &[u8], cards: &[Card<'_, F>], key: &mut [F])
 
 // Whether the later cards lie on the polynomials through the first ones: if so, writes the key.
 fn settle<F: Field>(first: &[Card<'_, F>], later: &[Card<'_, F>], key: &mut [F]) -> bool
-    requires fixing { Fixing points.largest (length key.old) (ids_of (faces first.now)) (faces first.now) }
-    requires own { list_all (id_known points.largest) (faces later.now) ≡ true }
+    requires fixing { Fixing F.points.largest (length key.old) (ids_of (faces first.now)) (faces first.now) }
+    requires own { list_all (id_known F.points.largest) (faces later.now) ≡ true }
     requires long { list_all (as_long (length key.old)) (faces later.now) ≡ true }
-    ensures answer { result ≡ list_all (lies ops points.at equality.same (length key.old) (faces first.now)) (faces later.now) }
-    ensures key { key.new ≡ (if result then map (opened ops points.at (faces first.now)) (range_with_len 0 (length key.old)) else key.old) }
+    ensures answer { result ≡ list_all (lies F.ops F.points.at F.equality.same (length key.old) (faces first.now)) (faces later.now) }
+    ensures key { key.new ≡ (if result then map (opened F.ops F.points.at (faces first.now)) (range_with_len 0 (length key.old)) else key.old) }
 {
     let row = ids_on(first);
     let ids = &row[..first.len()];
@@ -163,8 +163,8 @@ pub fn open<F: Field>(
     cards: &[Card<'_, F>],
     key: &mut [F],
 ) -> Result<(), Denial>
-    ensures answer { result ≡ open_answer ops points.at equality.same points.largest (facts circle.now) (faces cards.now) (length key.old) }
-    ensures key { key.new ≡ open_key ops points.at result (facts circle.now) (faces cards.now) key.old }
+    ensures answer { result ≡ open_answer F.ops F.points.at F.equality.same F.points.largest (facts circle.now) (faces cards.now) (length key.old) }
+    ensures key { key.new ≡ open_key F.ops F.points.at result (facts circle.now) (faces cards.now) key.old }
 {
     let places = circle.places as usize;
     let threshold = circle.threshold as usize;

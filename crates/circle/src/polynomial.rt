@@ -11,7 +11,7 @@ use fields::field::Field;
 
 /// What a list of numbers comes to at x: Horner's rule, from the highest power down.
 pub fn value<F: Field>(numbers: &[F], x: F) -> F
-    ensures { result ≡ value ops numbers.now x }
+    ensures { result ≡ value F.ops numbers.now x }
 {
     let mut sum = F::zero();
     let mut i = numbers.len();
@@ -24,8 +24,8 @@ pub fn value<F: Field>(numbers: &[F], x: F) -> F
 
 // The point of an id that has one.
 pub(crate) fn point_of<F: Field>(id: u8) -> F
-    requires { has_point points.largest id ≡ true }
-    ensures { result ≡ points.at id }
+    requires { has_point F.points.largest id ≡ true }
+    ensures { result ≡ F.points.at id }
 {
     match F::point(id) {
         Some(x) => x,
@@ -35,8 +35,8 @@ pub(crate) fn point_of<F: Field>(id: u8) -> F
 
 // The product of z - k over the points k of the ids.
 fn gaps<F: Field>(ids: &[u8], z: F) -> F
-    requires { list_all (has_point points.largest) ids.now ≡ true }
-    ensures { result ≡ gaps ops (map points.at ids.now) z }
+    requires { list_all (has_point F.points.largest) ids.now ≡ true }
+    ensures { result ≡ gaps F.ops (map F.points.at ids.now) z }
 {
     let mut product = F::one();
     for id in ids {
@@ -49,8 +49,8 @@ fn gaps<F: Field>(ids: &[u8], z: F) -> F
 // The same over all ids but the one at i.
 fn gaps_beside<F: Field>(ids: &[u8], i: usize, z: F) -> F
     requires within { i < length ids.now }
-    requires known { list_all (has_point points.largest) ids.now ≡ true }
-    ensures { result ≡ gaps_beside ops (map points.at ids.now) i z }
+    requires known { list_all (has_point F.points.largest) ids.now ≡ true }
+    ensures { result ≡ gaps_beside F.ops (map F.points.at ids.now) i z }
 {
     let before = &ids[..i];
     let after = &ids[i + 1..];
@@ -58,9 +58,9 @@ fn gaps_beside<F: Field>(ids: &[u8], i: usize, z: F) -> F
 }
 
 // The quotient of two elements, the second of which is not zero.
-fn quotient<F: Field>(x: F, y: F) -> F
-    requires { y ≢ ops.zero }
-    ensures { result ≡ ops.mul x (ops.inv y) }
+pub(crate) fn quotient<F: Field>(x: F, y: F) -> F
+    requires { y ≢ F.ops.zero }
+    ensures { result ≡ F.ops.mul x (F.ops.inv y) }
 {
     match y.inverse() {
         Some(inverse) => x.mul(inverse),
@@ -71,9 +71,9 @@ fn quotient<F: Field>(x: F, y: F) -> F
 // The constant of the id at i, for the value at z.
 fn constant<F: Field>(ids: &[u8], i: usize, z: F) -> F
     requires within { i < length ids.now }
-    requires known { list_all (has_point points.largest) ids.now ≡ true }
+    requires known { list_all (has_point F.points.largest) ids.now ≡ true }
     requires different { Distinct ids.now }
-    ensures { result ≡ constant_of ops (map points.at ids.now) z i }
+    ensures { result ≡ constant_of F.ops (map F.points.at ids.now) z i }
 {
     let s: F = point_of(ids[i]);
     quotient(gaps_beside(ids, i, z), gaps_beside(ids, i, s))
@@ -82,9 +82,9 @@ fn constant<F: Field>(ids: &[u8], i: usize, z: F) -> F
 // The constants of all the ids, for the value at z: worked out once for every place.
 pub(crate) fn constants<F: Field>(ids: &[u8], z: F) -> F::Row
     requires few { length ids.now ≤ 32 }
-    requires known { list_all (has_point points.largest) ids.now ≡ true }
+    requires known { list_all (has_point F.points.largest) ids.now ≡ true }
     requires different { Distinct ids.now }
-    ensures { (k : ℕ) → k < length ids.now → slice_index_or (held result) k ops.zero ≡ constant_of ops (map points.at ids.now) z k }
+    ensures { (k : ℕ) → k < length ids.now → slice_index_or (F.held result) k F.ops.zero ≡ constant_of F.ops (map F.points.at ids.now) z k }
 {
     let mut row = F::blank_row();
     for i in 0..ids.len() {
@@ -93,7 +93,14 @@ pub(crate) fn constants<F: Field>(ids: &[u8], z: F) -> F::Row
     row
 }
 
-/// The theorems on polynomials that sharing rests on: nothing is done here.
-pub fn polynomial_laws<F: Field>()
-    ensures { PolynomialLaws ops }
+// The theorems on polynomials that sharing rests on, shown once.
+fn laws_shown<F: Field>()
+    ensures { PolynomialLaws F.ops }
 {}
+
+/// The theorems on polynomials that sharing rests on hold.
+pub fn polynomial_laws<F: Field>()
+    ensures { PolynomialLaws F.ops }
+{
+    laws_shown::<F>();
+}

@@ -1,13 +1,12 @@
 -- What a dealing that is answered with a circle has met. Assumes nothing.
-use Rattle.std.proofs.Common.{◌≡◌, ℕ, ◌-◌, ◌*◌, ◌≤◌, Bool, true, false, cond, not, ◌||◌, eqb, ltb, Ok, Err, Result, sym, refl, ap, ◌∙◌, arith}
+use Rattle.std.proofs.Common.{◌≡◌, ℕ, ◌-◌, ◌*◌, ◌≤◌, Bool, true, false, cond, not, ◌||◌, eqb, ltb, Ok, Err, Result, refl, arith}
 use Rattle.std.proofs.lemmas.Bool.{or_parts, not-false, ltb-false, eqb-true}
-use Rattle.circle.specs.declared.denial.Denial.{Denial}
 use Rattle.circle.specs.Deal.{deal_answer}
 use Rattle.circle.specs.Ids.{size, within_largest}
 use Rattle.circle.specs.State.{Facts}
 
 -- a test that was not denied
-passed : {A E : Type 0} (b : Bool) (e : E) (rest : Result A E) (a : A) → cond b (Err e) rest ≡ Ok a → (b ≡ false) × (rest ≡ Ok a)
+pub passed : {A E : Type 0} (b : Bool) (e : E) (rest : Result A E) (a : A) → cond b (Err e) rest ≡ Ok a → (b ≡ false) × (rest ≡ Ok a)
 passed true e rest a is = let z : ◌≡◌ {A = ℕ} 0 1 = cc in absurd (omega_false z)
   where
     omega_false : ◌≡◌ {A = ℕ} 0 1 → ⊥

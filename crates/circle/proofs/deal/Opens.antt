@@ -1,6 +1,6 @@
 -- Cards as dealt open to the key dealt. Assumes nothing.
-use Rattle.std.proofs.Common.{◌≡◌, ℕ, ◌+◌, ◌-◌, ◌*◌, ◌<◌, ◌≤◌, Bool, true, false, cond, not, ◌||◌, eqb, ltb, leb, List, [], ◌∷◌, map, length, get_or, take, drop, Ok, sym, refl, ap, ◌∙◌, subst, arith, length-take}
-use Rattle.std.specs.List.{range_with_len, list_all, AllByRecursion as All}
+use Rattle.std.proofs.Common.{◌≡◌, ℕ, ◌+◌, ◌-◌, ◌*◌, ◌<◌, ◌≤◌, true, leb, List, [], ◌∷◌, map, length, get_or, take, drop, Ok, sym, refl, ap, ◌∙◌, subst, arith, length-take}
+use Rattle.std.specs.List.{range_with_len, list_all, AllByRecursion}
 use Rattle.std.proofs.lemmas.List.FromFn.{length-map-range_with_len, get_or-map-range_with_len, fill_by_all}
 use Rattle.std.proofs.ByRecursion.{All-take, All-drop}
 use Rattle.std.proofs.lemmas.List.{length-map}
@@ -18,7 +18,7 @@ use Rattle.circle.specs.State.{Facts}
 use Rattle.circle.specs.Table.{entry, grid, piece}
 use Rattle.circle.proofs.Lists.{all_of}
 use Rattle.circle.proofs.Tests.{pass_all, each_take}
-use Rattle.circle.proofs.deal.Answered.{Met, deal_met}
+use Rattle.circle.proofs.deal.Answered.{deal_met}
 use Rattle.circle.proofs.ids.Laws.{on_member, within_known}
 use Rattle.circle.proofs.ids.Lists.{in_counting}
 use Rattle.circle.proofs.open.Cards.{column_points, differ_take, distinct_ids, ids_known}
@@ -60,13 +60,13 @@ module _ {K : Type 0} {F : Ops K} (laws : FieldLaws F) (m : Points F) (eq : Equa
       ∙ grid_at (dealt F m.at roll (t - 1) key numbers) places p x.id F.zero less (on_member roll x.id own.0).0 high
       ∙ cond-true (member roll x.id) (eval F (f p) (m.at x.id)) F.zero own.0
 
-  through : (p : ℕ) → p < places → (cards : List (Face K)) → All Own cards → Through F (f p) (column F m.at p cards)
+  through : (p : ℕ) → p < places → (cards : List (Face K)) → AllByRecursion Own cards → Through F (f p) (column F m.at p cards)
   through p less [] own = tt
   through p less (x ∷ cards) own = (sym (card_lies x own.0 p less), through p less cards own.1)
 
   -- ## The first t cards
 
-  module _ (cards : List (Face K)) (enough : t ≤ length cards) (differ : ids_differ cards ≡ true) (own : All Own cards) where
+  module _ (cards : List (Face K)) (enough : t ≤ length cards) (differ : ids_differ cards ≡ true) (own : AllByRecursion Own cards) where
     abbrev first : List (Face K)
     first = take t cards
 
@@ -117,7 +117,7 @@ module _ {K : Type 0} {F : Ops K} (laws : FieldLaws F) (m : Points F) (eq : Equa
 pub opens : {K : Type 0} {F : Ops K} (laws : FieldLaws F) (m : Points F) (eq : Equality K) → Opens F m eq.same
 opens {K} {F} laws m eq roll t places key numbers table c ok cards enough differ own buffer long =
     let met = deal_met m.largest roll t places (length key) (length numbers) (length table) c ok in
-    let P : Facts → Type 0 = λ c. All (DealtCard F c (deal_table F m.at (Ok c) key numbers table)) cards
+    let P : Facts → Type 0 = λ c. AllByRecursion (DealtCard F c (deal_table F m.at (Ok c) key numbers table)) cards
     → (open_answer F m.at eq.same m.largest c cards (length buffer) ≡ Ok tt) × (open_key F m.at (Ok tt) c cards buffer ≡ key) in
     subst P (sym met.is)
     (λ own. (

@@ -1,5 +1,5 @@
 -- The points of the ids on a roll. Assumes nothing.
-use Rattle.std.proofs.Common.{◌≡◌, ℕ, ◌≤◌, true, false, eqb, ltb, Some, None, Option, MatchOption}
+use Rattle.std.proofs.Common.{◌≡◌, ℕ, ◌≤◌, true, false, Some, None, Option, MatchOption}
 use Rattle.circle.specs.Ids.{member, within_largest}
 use Rattle.circle.proofs.ids.Laws.{on_member, within_known}
 

@@ -1,8 +1,8 @@
 -- The binary digits of a number: one set, one cleared, and what that does to the others and to their count. Assumes nothing.
-use Rattle.std.proofs.Common.{◌≡◌, ℕ, zero, suc, ◌+◌, ◌-◌, ◌*◌, ◌/◌, ◌%◌, ◌^◌, ◌<◌, ◌≤◌, min, ◌⊎◌, sym, refl, ap, ◌∙◌, ap₂, inl, inr, le_of_suc-le-suc, not-suc-le-zero, pow-suc, one-add, arith}
+use Rattle.std.proofs.Common.{◌≡◌, ℕ, zero, suc, ◌+◌, ◌-◌, ◌*◌, ◌/◌, ◌%◌, ◌^◌, ◌<◌, ◌≤◌, min, ◌⊎◌, sym, refl, ap, ◌∙◌, ap₂, inl, inr, le_of_suc-le-suc, not-suc-le-zero, pow-suc, add-one, one-add, arith}
 use lib.Bits.{bit_and, and_high, and_step, and_le_l}
 use lib.Count.{ones, ones_step, count_trailing_zeros, under}
-use Rattle.std.proofs.lemmas.Nat.{pow_pos, shr-shr, shr_split, mod_below}
+use Rattle.std.proofs.lemmas.Nat.{pow_pos, shr-shr, shr_split, mod_below, mod-pow-add}
 
 -- digit i of n, the lowest first
 abbrev pub bit : ℕ → ℕ → ℕ
@@ -36,6 +36,17 @@ bit_past zero zero n h l = omega arith
 bit_past zero (suc i) n h l = bit_past zero i (n / 2) (omega arith) (omega arith)
 bit_past (suc w) zero n h l = absurd (omega arith)
 bit_past (suc w) (suc i) n h l = bit_past w i (n / 2) (half_lt w n h) (le_of_suc-le-suc l)
+
+-- the digits below the end
+mod_halves : (w n : ℕ) → n % 2 ^ suc w ≡ (n / 2 % 2 ^ w) * 2 + n % 2
+mod_halves w n = ap (λ k. n % 2 ^ k) (sym (add-one w)) ∙ mod-pow-add n w 1
+
+pub bit_mod : (w i n : ℕ) → i < w → bit i (n % 2 ^ w) ≡ bit i n
+bit_mod zero i n l = absurd (not-suc-le-zero l)
+bit_mod (suc w) zero n l = omega (arith, mod_halves w n)
+bit_mod (suc w) (suc i) n l =
+    let half : n % 2 ^ suc w / 2 ≡ n / 2 % 2 ^ w = omega (arith, mod_halves w n) in
+    ap (bit i) half ∙ bit_mod w i (n / 2) (le_of_suc-le-suc l)
 
 -- nothing is left past the end
 pub shr_none : (n w : ℕ) → n / 2 ^ w ≡ 0 → n < 2 ^ w

@@ -1,20 +1,21 @@
 -- The laws of sets of ids. Assumes nothing.
-use Rattle.std.proofs.Common.{◌≡◌, ℕ, zero, suc, ◌+◌, ◌-◌, ◌/◌, ◌^◌, ◌<◌, ◌≤◌, true, false, cond, not, ◌&&◌, ◌||◌, eqb, ltb, ◌≢◌, List, [], ◌∷◌, ◌++◌, length, Decides, filter, Option, sym, refl, ap, ◌∙◌, ap₂, inl, inr, pow-suc, arith}
+use Rattle.std.proofs.Common.{◌≡◌, ℕ, zero, suc, ◌+◌, ◌-◌, ◌/◌, ◌%◌, ◌^◌, ◌<◌, ◌≤◌, Bool, true, false, cond, not, ◌&&◌, ◌||◌, eqb, ltb, ◌≢◌, List, [], ◌∷◌, ◌++◌, length, Some, Decides, filter, Option, sym, refl, ap, ◌∙◌, ap₂, inl, inr, pow-suc, arith}
 use lib.Count.{ones, ones_step, ones-le}
-use Rattle.std.specs.List.{range_with_len, list_all}
+use Rattle.std.specs.List.{slice_get, range_with_len, list_all}
 use Rattle.std.specs.Iterator.{Yields}
 use Rattle.std.proofs.lemmas.Iterator.{YieldsList}
-use Rattle.std.proofs.lemmas.Nat.{shr-shr, shr_le}
+use Rattle.std.proofs.lemmas.Nat.{pow_pos, mod_below, shr-shr, shr_le}
 use Rattle.std.proofs.lemmas.List.Filters.{length-filter_both}
 use Rattle.std.proofs.lemmas.Iterator.Consumers.{YieldsList-from_shown}
 use Rattle.std.proofs.lemmas.Bool.{cases_lt, cases_Bool, both_ways, cond-true, cond-false, cond_both, and_left, and_right, and_parts, or_left, not-true, eq-eqb, eqb-true}
 use Rattle.std.proofs.lemmas.Bool.Decides.{nat_tests, eqb_tells, Decides-like}
 use Rattle.std.proofs.ByRecursion.{Decides-by_and}
-use Rattle.circle.specs.Ids.{is_id, ids, member, inserted, removed, members, size, within_largest, subset, Stepped, Ascends}
+use Rattle.circle.specs.Ids.{is_id, ids, member, inserted, removed, members, size, rank, within_largest, subset, Stepped, Ascends}
 use Rattle.circle.specs.Lists.{In, Distinct}
-use Rattle.circle.proofs.ids.Bits.{bit, bit_shift, bit_shr, bit_cases, bit_past, bits_≡, shr_none, bit_add_same, bit_add_other, ones_add, add_lt, apart}
+use Rattle.circle.proofs.ids.Bits.{bit, bit_shift, bit_shr, bit_cases, bit_past, bit_mod, bits_≡, shr_none, bit_add_same, bit_add_other, ones_add, add_lt, apart}
 use Rattle.circle.proofs.Lists.{all_of, all-at}
-use Rattle.circle.proofs.ids.Lists.{ascends_distinct, in_counting, counting_in, counting_ascends, in_kept, kept_in, kept_same, ascends_kept, kept_first}
+use Rattle.circle.proofs.Tests.{pass_all}
+use Rattle.circle.proofs.ids.Lists.{ascends_distinct, nth_after, nth_below, counting_split, in_counting, counting_in, counting_ascends, in_kept, kept_in, kept_same, ascends_kept, kept_first}
 
 -- ## A member is a digit
 
@@ -201,6 +202,9 @@ pub members_in : (set h : ℕ) → is_id h ≡ true → member set h ≡ true �
 unfolding members
 members_in set h id m = kept_in (member set) ids h (ids_in h id) m
 
+pub members_ids : (set : ℕ) → list_all is_id (members set) ≡ true
+members_ids set = pass_all (λ h. is_id h ≡ true) is_id (λ h id. id) (members set) (all_of _ (members set) (λ h m. (in_members set h m).0))
+
 pub members_ascend : (set : ℕ) → Ascends (members set)
 unfolding members
 members_ascend set = ascends_kept (member set) ids ids_ascend
@@ -231,6 +235,43 @@ count_from (suc n) h set p few =
 pub members_size : (set : ℕ) → set < 2 ^ 32 → length (members set) ≡ size set
 unfolding members ids
 members_size set fits = count_from 32 1 set (omega arith) (omega arith) ∙ ap ones (omega arith)
+
+-- those below h are members of what is below the digit of h
+pub rank_count : (set n : ℕ) → length (filter (member set) (range_with_len 1 n)) ≡ ones (set % 2 ^ n)
+rank_count set n =
+    let low = set % 2 ^ n in
+    let whole : low / 2 ^ (1 - 1) ≡ low = omega arith in
+    ap length (kept_same (member set) (member low) (range_with_len 1 n) (λ k m. sym (same k (in_counting 1 n k m))))
+    ∙ count_from n 1 low (omega arith) (omega (arith, whole, mod_below set (2 ^ n) (pow_pos n)))
+    ∙ ap ones whole
+  where
+    same : (k : ℕ) → (1 ≤ k) × (k < 1 + n) → member (set % 2 ^ n) k ≡ member set k
+    same k b =
+        member_bit (set % 2 ^ n) k ∙ ap (λ d. ltb 0 k && eqb d 1) (bit_mod n (k - 1) set (omega arith)) ∙ sym (member_bit set k)
+
+kept_append : {A : Type 0} (p : A → Bool) (xs ys : List A) → filter p (xs ++ ys) ≡ filter p xs ++ filter p ys
+kept_append p [] ys = refl
+kept_append p (x ∷ xs) ys = go (p x) (kept_append p xs ys)
+  where
+    go : (b : Bool) → filter p (xs ++ ys) ≡ filter p xs ++ filter p ys
+        → cond b (x ∷ filter p (xs ++ ys)) (filter p (xs ++ ys)) ≡ cond b (x ∷ filter p xs) (filter p xs) ++ filter p ys
+    go true e = ap (λ zs. x ∷ zs) e
+    go false e = e
+
+-- a member stands behind those that are below it
+pub member_rank : (set h : ℕ) → set < 2 ^ 32 → member set h ≡ true → slice_get (members set) (rank set h) ≡ Some h
+unfolding members ids
+member_rank set h fits m =
+    let b = id_bounds h (member_id set h fits m) in
+    let n = h - 1 in
+    let split : range_with_len 1 32 ≡ range_with_len 1 n ++ (h ∷ range_with_len (h + 1) (32 - h)) = counting_split 1 n 32 h (32 - h) (omega arith) (omega arith) in
+    let parts : filter (member set) (range_with_len 1 32) ≡ filter (member set) (range_with_len 1 n) ++ (h ∷ filter (member set) (range_with_len (h + 1) (32 - h))) =
+    ap (filter (member set)) split ∙ kept_append (member set) (range_with_len 1 n) (h ∷ range_with_len (h + 1) (32 - h))
+    ∙ ap (λ ys. filter (member set) (range_with_len 1 n) ++ ys) (cond-true (member set h) _ _ m) in
+    ap₂ slice_get parts (sym (rank_count set n)) ∙ nth_after (filter (member set) (range_with_len 1 n)) _ h
+
+pub rank_below : (set h : ℕ) → set < 2 ^ 32 → member set h ≡ true → rank set h < size set
+rank_below set h fits m = omega (arith, nth_below (members set) (rank set h) h (member_rank set h fits m), members_size set fits)
 
 pub members_few : (set : ℕ) → length (members set) ≤ 32
 unfolding members

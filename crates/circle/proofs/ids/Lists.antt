@@ -1,6 +1,6 @@
 -- Lists: what stands in them, in which order, and what a filter keeps. Assumes nothing.
-use Rattle.std.proofs.Common.{◌≡◌, ℕ, zero, suc, ◌+◌, ◌<◌, ◌≤◌, Bool, true, false, cond, not, ◌&&◌, eqb, List, [], ◌∷◌, ◌++◌, length, Some, filter, sym, refl, ap, ◌∙◌, subst, ap₂, inl, inr, arith}
-use Rattle.std.specs.List.{slice_get, range_with_len, AllByRecursion as All}
+use Rattle.std.proofs.Common.{◌≡◌, ℕ, zero, suc, ◌+◌, ◌<◌, ◌≤◌, Bool, true, false, cond, not, ◌&&◌, eqb, List, [], ◌∷◌, ◌++◌, length, Some, filter, sym, refl, ap, ◌∙◌, ap₂, inl, inr, arith}
+use Rattle.std.specs.List.{slice_get, range_with_len, AllByRecursion}
 use Rattle.std.proofs.ByRecursion.{all_kept_by, All-weaker}
 use Rattle.std.proofs.lemmas.Bool.{cases_eq, cond-true, cond-false, and_left, and_right, eq-eqb, ne_eqb}
 use Rattle.circle.specs.Ids.{Ascends}
@@ -15,6 +15,11 @@ pub nth_after : {A : Type 0} (xs ys : List A) (y : A) → slice_get (xs ++ y ∷
 nth_after [] ys y = refl
 nth_after (x ∷ xs) ys y = nth_after xs ys y
 
+pub nth_below : {A : Type 0} (xs : List A) (k : ℕ) (x : A) → slice_get xs k ≡ Some x → k < length xs
+nth_below [] k x at = let z : ◌≡◌ {A = ℕ} 0 1 = cc in absurd (omega arith)
+nth_below (y ∷ ys) zero x at = omega arith
+nth_below (y ∷ ys) (suc k) x at = omega (arith, nth_below ys k x at)
+
 -- ## Numbers in a row
 
 pub in_counting : (a n x : ℕ) → In x (range_with_len a n) → (a ≤ x) × (x < a + n)
@@ -26,6 +31,14 @@ pub counting_in : (a n x : ℕ) → a ≤ x → x < a + n → In x (range_with_l
 counting_in a zero x l u = absurd (omega arith)
 counting_in a (suc n) x l u =
     elim (cases_eq x a) [ inl e ↦ inl e | inr ne ↦ inr (counting_in (a + 1) n x (omega arith) (omega arith)) ]
+
+-- those before one of them, and those after it
+pub counting_split : (a n m x r : ℕ) → x ≡ a + n → m ≡ n + 1 + r → range_with_len a m ≡ range_with_len a n ++ (x ∷ range_with_len (x + 1) r)
+counting_split a zero m x r e long =
+    ap (range_with_len a) {x = m} {y = suc r} (omega arith) ∙ ap (λ y. y ∷ range_with_len (y + 1) r) {x = a} {y = x} (omega arith)
+counting_split a (suc n) m x r e long =
+    ap (range_with_len a) {x = m} {y = suc (n + 1 + r)} (omega arith)
+    ∙ ap {B = List ℕ} (λ ys. a ∷ ys) (counting_split (a + 1) n (n + 1 + r) x r (omega arith) refl)
 
 pub counting_ascends : (a n : ℕ) → Ascends (range_with_len a n)
 counting_ascends a zero = tt
@@ -63,7 +76,7 @@ pub ascends_kept : (p : ℕ → Bool) (xs : List ℕ) → Ascends xs → Ascends
 ascends_kept p [] a = tt
 ascends_kept p (x ∷ xs) a = go (p x) (all_kept_by p _ xs a.0) (ascends_kept p xs a.1)
   where
-    go : (b : Bool) → All (λ y. x < y) (filter p xs) → Ascends (filter p xs) → Ascends (cond b (x ∷ filter p xs) (filter p xs))
+    go : (b : Bool) → AllByRecursion (λ y. x < y) (filter p xs) → Ascends (filter p xs) → Ascends (cond b (x ∷ filter p xs) (filter p xs))
     go true l r = (l, r)
     go false l r = r
 

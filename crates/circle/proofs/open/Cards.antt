@@ -1,6 +1,6 @@
 -- Loops over a list of cards. Assumes nothing.
-use Rattle.std.proofs.Common.{◌≡◌, ℕ, zero, suc, ◌+◌, ◌<◌, ◌≤◌, Bool, true, false, ◌&&◌, eqb, ◌≢◌, List, [], ◌∷◌, map, length, get_or, take, drop, sym, refl, ap, ◌∙◌, subst, arith, length-take}
-use Rattle.std.specs.List.{AllByRecursion as All, list_all}
+use Rattle.std.proofs.Common.{◌≡◌, ℕ, zero, suc, ◌+◌, ◌<◌, ◌≤◌, true, false, ◌&&◌, eqb, ◌≢◌, List, [], ◌∷◌, map, length, get_or, take, drop, sym, refl, ap, ◌∙◌, subst, arith, length-take}
+use Rattle.std.specs.List.{AllByRecursion, list_all}
 use Rattle.std.proofs.lemmas.List.{at_drop_more, at_drop_all, get_or-map, length-map}
 use Rattle.std.proofs.lemmas.Bool.{and_parts, and_from, eqb-true, eqb-false, not-true}
 use Rattle.circle.specs.Lists.{Distinct}
@@ -59,7 +59,7 @@ differ_take (suc i) (x ∷ cs) all =
     (each_take (other_id x.id) i cs parts.0) (differ_take i cs parts.1)
 
 -- cards that differ have ids that differ
-others_differ : {K : Type 0} (id : ℕ) (cs : List (Face K)) → list_all (other_id id) cs ≡ true → All (λ k. id ≢ k) (ids_of cs)
+others_differ : {K : Type 0} (id : ℕ) (cs : List (Face K)) → list_all (other_id id) cs ≡ true → AllByRecursion (λ k. id ≢ k) (ids_of cs)
 others_differ id [] all = tt
 others_differ id (c ∷ cs) all =
     let parts = and_parts (other_id id c) (list_all (other_id id) cs) all in

@@ -1,7 +1,7 @@
 -- Lagrange's constants, with one inverse for each; and the sum that they weigh. Assumes nothing.
-use Rattle.std.proofs.Common.{◌≡◌, ℕ, ◌+◌, ◌-◌, ◌<◌, ◌≤◌, ◌≢◌, List, [], ◌∷◌, ◌++◌, length, get_or, take, drop, sym, refl, ap, ◌∙◌, subst, ap₂, append_assoc, arith, take-append-drop}
-use Rattle.std.specs.List.{AllByRecursion as All}
-use Rattle.std.proofs.lemmas.List.{drop_more, at_drop_more, take_at, drop_at, get_or_at, length_push}
+use Rattle.std.proofs.Common.{◌≡◌, ℕ, ◌+◌, ◌<◌, ◌≢◌, List, [], ◌∷◌, ◌++◌, length, get_or, take, drop, sym, refl, ap, ◌∙◌, subst, ap₂, append_assoc, arith, take-append-drop}
+use Rattle.std.specs.List.{AllByRecursion}
+use Rattle.std.proofs.lemmas.List.{drop_more, take_at, drop_at, get_or_at, length_push}
 use Rattle.fields.specs.Field.{Ops, FieldLaws, sub}
 use Rattle.fields.proofs.Ring.{ring, forms}
 use Rattle.circle.specs.Lists.{Distinct, others}
@@ -43,11 +43,11 @@ module _ {K : Type 0} {F : Ops K} (laws : FieldLaws F) where
 
   -- ## One inverse for each constant
 
-  gaps≢zero : (ks : List K) (s : K) → All (λ k. s ≢ k) ks → gaps F ks s ≢ 𝟘
+  pub gaps≢zero : (ks : List K) (s : K) → AllByRecursion (λ k. s ≢ k) ks → gaps F ks s ≢ 𝟘
   gaps≢zero [] s h = λ e. laws.zero≢one (sym e)
   gaps≢zero (k ∷ ks) s h = mul≢zero (s ⊝ k) (gaps F ks s) (sub≢zero laws s k h.0) (gaps≢zero ks s h.1)
 
-  constant_fraction : (ks : List K) (s z : K) → All (λ k. s ≢ k) ks → constant F ks s z ≡ gaps F ks z ⊗ inv (gaps F ks s)
+  pub constant_fraction : (ks : List K) (s z : K) → AllByRecursion (λ k. s ≢ k) ks → constant F ks s z ≡ gaps F ks z ⊗ inv (gaps F ks s)
   constant_fraction [] s z h = sym (ap (λ u. 𝟙 ⊗ u) inv-one ∙ laws.ring.mul-one 𝟙)
   constant_fraction (k ∷ ks) s z h =
       let below = gaps F ks s in
@@ -61,7 +61,7 @@ module _ {K : Type 0} {F : Ops K} (laws : FieldLaws F) where
   gaps_append (k ∷ xs) ys z =
       ap (λ u. (z ⊝ k) ⊗ u) (gaps_append xs ys z) ∙ sym (laws.ring.mul_assoc (z ⊝ k) (gaps F xs z) (gaps F ys z))
 
-  others_apart : (ks : List K) (i : ℕ) (s : K) → i < length ks → s ≡ get_or ks i s → Distinct ks → All (λ k. s ≢ k) (others ks i)
+  others_apart : (ks : List K) (i : ℕ) (s : K) → i < length ks → s ≡ get_or ks i s → Distinct ks → AllByRecursion (λ k. s ≢ k) (others ks i)
   others_apart ks i s h read d =
       distinct_middle (take i ks) s (drop (i + 1) ks)
       (subst Distinct

@@ -1,9 +1,9 @@
 -- Fewer than t values say nothing of the value at zero. Assumes nothing.
-use Rattle.std.proofs.Common.{◌≡◌, ℕ, suc, ◌<◌, ◌≤◌, ◌≢◌, List, [], ◌∷◌, map, length, sym, refl, ap, ◌∙◌, subst, ap₂, arith}
-use Rattle.fields.specs.Field.{Ops, FieldLaws, sub}
-use Rattle.std.specs.List.{AllByRecursion as All}
+use Rattle.std.proofs.Common.{◌≡◌, ℕ, ◌<◌, ◌≢◌, List, [], ◌∷◌, map, length, sym, refl, ap, ◌∙◌, subst, arith}
+use Rattle.fields.specs.Field.{Ops, FieldLaws}
+use Rattle.std.specs.List.{AllByRecursion}
 use Rattle.std.proofs.lemmas.List.{length-map}
-use Rattle.circle.specs.Lists.{In, Distinct}
+use Rattle.circle.specs.Lists.{Distinct}
 use Rattle.circle.specs.Polynomial.{eval, points}
 use Rattle.circle.proofs.Lists.{all_of, all-at, all_unmap}
 use Rattle.circle.proofs.polynomial.Values.{padded}
@@ -23,13 +23,13 @@ module _ {K : Type 0} {F : Ops K} (laws : FieldLaws F) where
   points_zero_at (a ∷ known) = ap {B = List K} (λ r. a ∷ r) (points_zero_at known)
 
   -- a polynomial that is d at zero, and zero at fewer than t points
-  pub hiding : (known : List K) (t : ℕ) (d : K) → Distinct known → All (λ a. a ≢ 𝟘) known → length known < t
-      → (f : List K) × (length f ≡ t) × (eval F f 𝟘 ≡ d) × All (λ a. eval F f a ≡ 𝟘) known
+  pub hiding : (known : List K) (t : ℕ) (d : K) → Distinct known → AllByRecursion (λ a. a ≢ 𝟘) known → length known < t
+      → (f : List K) × (length f ≡ t) × (eval F f 𝟘 ≡ d) × AllByRecursion (λ a. eval F f a ≡ 𝟘) known
   hiding known t d apart nonzero n =
       let shares : List (K × K) = (𝟘, d) ∷ map zero_at known in
-      let from_zero : All (λ a. 𝟘 ≢ a) known = all_of _ known (λ a m e. all-at (λ b. b ≢ 𝟘) known nonzero a m (sym e)) in
+      let from_zero : AllByRecursion (λ a. 𝟘 ≢ a) known = all_of _ known (λ a m e. all-at (λ b. b ≢ 𝟘) known nonzero a m (sym e)) in
       let different : Distinct (points shares) = subst (λ ps. Distinct (𝟘 ∷ ps)) (sym (points_zero_at known)) (from_zero, apart) in
       let f = interpolate laws shares different in
       let g = padded laws.ring f.0 t (omega (arith, f.1, length-map known zero_at)) in
-      let at-known : All (λ a. eval F f.0 a ≡ 𝟘) known = all_unmap zero_at (λ p. eval F f.0 p.0 ≡ p.1) known f.2.1 in
+      let at-known : AllByRecursion (λ a. eval F f.0 a ≡ 𝟘) known = all_unmap zero_at (λ p. eval F f.0 p.0 ≡ p.1) known f.2.1 in
       (g.0, g.1, g.2 𝟘 ∙ f.2.0, all_of _ known (λ a m. g.2 a ∙ all-at _ known at-known a m))

@@ -1,7 +1,7 @@
 -- Lagrange's formula, and a polynomial through any values. Assumes nothing.
-use Rattle.std.proofs.Common.{◌≡◌, suc, ◌+◌, ◌≤◌, ◌≢◌, List, [], ◌∷◌, ◌++◌, map, length, sym, refl, ap, ◌∙◌, ap₂, inl, inr, append_assoc, arith, length-append}
+use Rattle.std.proofs.Common.{◌≡◌, suc, ◌+◌, ◌≤◌, ◌≢◌, List, [], ◌∷◌, ◌++◌, length, sym, refl, ap, ◌∙◌, ap₂, inl, inr, append_assoc, arith, length-append}
 use Rattle.fields.specs.Field.{Ops, FieldLaws, sub}
-use Rattle.std.specs.List.{AllByRecursion as All}
+use Rattle.std.specs.List.{AllByRecursion}
 use Rattle.std.proofs.lemmas.List.{length-map}
 use Rattle.circle.specs.Lists.{In, Distinct}
 use Rattle.circle.specs.Polynomial.{Through, eval, points, constant}
@@ -49,7 +49,7 @@ module _ {K : Type 0} {F : Ops K} (laws : FieldLaws F) where
       ap (λ u. (z ⊝ k) ⊗ inv (s ⊝ k) ⊗ u) (constant_other others s z m)
       ∙ ring laws.ring (z ∷ k ∷ inv (s ⊝ k) ∷ []) (search forms depth 9) (search forms depth 9) refl
 
-  constant_self : (others : List K) (s : K) → All (λ k. s ≢ k) others → constant F others s s ≡ 𝟙
+  constant_self : (others : List K) (s : K) → AllByRecursion (λ k. s ≢ k) others → constant F others s s ≡ 𝟙
   constant_self [] s h = refl
   constant_self (k ∷ others) s h =
       ap₂ (λ u v. u ⊗ v) (laws.mul-inv (s ⊝ k) (sub≢zero laws s k h.0)) (constant_self others s h.1) ∙ laws.ring.mul-one 𝟙
@@ -78,7 +78,7 @@ module _ {K : Type 0} {F : Ops K} (laws : FieldLaws F) where
 
   -- at the point of a share the sum is the value of the share
   combine_at : (before : List K) (shares : List (K × K)) → Distinct (before ++ points shares)
-      → All (λ p. combine F before shares p.0 ≡ p.1) shares
+      → AllByRecursion (λ p. combine F before shares p.0 ≡ p.1) shares
   combine_at before [] d = tt
   combine_at before (p ∷ shares) d =
       let before' = before ++ (p.0 ∷ []) in
@@ -150,7 +150,7 @@ module _ {K : Type 0} {F : Ops K} (laws : FieldLaws F) where
       let g = combine_poly F [] shares in
       let g' = padded laws.ring g (length shares) (omega (arith, length_combine [] shares)) in
       let at = combine_at [] shares d in
-      let agree : All (λ s. eval F f'.0 s ≡ eval F g'.0 s) (points shares) =
+      let agree : AllByRecursion (λ s. eval F f'.0 s ≡ eval F g'.0 s) (points shares) =
       all_map (λ p. p.0) _ shares (all_of _ shares (λ p m.
       f'.2 p.0 ∙ all-at _ shares h p m ∙ sym (g'.2 p.0 ∙ eval_combine [] shares p.0 ∙ all-at _ shares at p m))) in
       let same = unique laws (points shares) f'.0 g'.0 d

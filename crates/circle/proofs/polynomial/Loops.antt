@@ -1,14 +1,14 @@
 -- What the loops over numbers and ids use: what is done so far and what is left come to the whole. Assumes nothing.
-use Rattle.std.proofs.Common.{◌≡◌, ℕ, zero, suc, ◌+◌, ◌-◌, ◌<◌, ◌≤◌, Bool, true, ◌&&◌, leb, ◌≢◌, List, [], ◌∷◌, map, length, get_or, drop, sym, ap, ◌∙◌, ap₂, arith}
-use Rattle.std.specs.List.{AllByRecursion as All, list_all}
-use Rattle.std.proofs.lemmas.List.{at_drop_more, get_or-map, length-map, take-map, drop-map}
+use Rattle.std.proofs.Common.{◌≡◌, ℕ, ◌+◌, ◌-◌, ◌<◌, ◌≤◌, true, leb, ◌≢◌, List, [], ◌∷◌, map, length, get_or, drop, sym, ap, ◌∙◌, ap₂, arith}
+use Rattle.std.specs.List.{AllByRecursion, list_all}
+use Rattle.std.proofs.lemmas.List.{at_drop_more, get_or-map, length-map}
 use Rattle.std.proofs.lemmas.Bool.{and_parts, leb-true}
 use Rattle.fields.specs.Field.{Ops, FieldLaws, Points, sub}
 use Rattle.circle.specs.Ids.{has_point}
 use Rattle.circle.specs.Lists.{Distinct, others}
 use Rattle.circle.specs.Polynomial.{eval, constant, constant_of}
 use Rattle.circle.specs.PolynomialParts.{gaps, gaps_beside}
-use Rattle.circle.proofs.polynomial.ConstantLaws.{constant_by_gaps}
+use Rattle.circle.proofs.polynomial.ConstantLaws.{gaps≢zero, constant_fraction, constant_by_gaps}
 
 -- one coefficient more, downwards
 pub eval_more : {K : Type 0} (F : Ops K) (f : List K) (i : ℕ) (c x : K) → 0 < i → i ≤ length f → c ≡ get_or f (i - 1) c
@@ -34,7 +34,7 @@ module _ {K : Type 0} {F : Ops K} (m : Points F) where
       (leb-true 1 h parts.0, leb-true h m.largest parts.1)
 
   apart_from : (h : ℕ) → has_point m.largest h ≡ true → (ids : List ℕ) → list_all (has_point m.largest) ids ≡ true
-      → All (λ k. h ≢ k) ids → All (λ y. m.at h ≢ y) (map m.at ids)
+      → AllByRecursion (λ k. h ≢ k) ids → AllByRecursion (λ y. m.at h ≢ y) (map m.at ids)
   apart_from h own [] known differ = tt
   apart_from h own (k ∷ ids) known differ =
       let parts = and_parts (has_point m.largest k) (list_all (has_point m.largest) ids) known in
@@ -58,3 +58,12 @@ constant_met {K} {F} laws m ids i z s within known differ at =
     let here : (d : K) → get_or ks i d ≡ s = λ d. get_or-map m.at ids i 0 d within ∙ sym at in
     let by = constant_by_gaps laws ks i s z (omega (arith, length-map ids m.at)) (sym (here s)) (points_differ m ids known differ) in
     (by.0, ap (λ u. constant F (others ks i) u z) (here F.zero) ∙ by.1)
+
+-- the constant of an id beside other ids, by one inverse
+pub constant_beside : {K : Type 0} {F : Ops K} (laws : FieldLaws F) (m : Points F) (h : ℕ) (ids : List ℕ) (z : K) → has_point m.largest h ≡ true
+    → list_all (has_point m.largest) ids ≡ true → AllByRecursion (λ k. h ≢ k) ids
+    → (gaps F (map m.at ids) (m.at h) ≢ F.zero)
+    × (constant F (map m.at ids) (m.at h) z ≡ F.mul (gaps F (map m.at ids) z) (F.inv (gaps F (map m.at ids) (m.at h))))
+constant_beside {K} {F} laws m h ids z own known differ =
+    let apart = apart_from m h own ids known differ in
+    (gaps≢zero laws (map m.at ids) (m.at h) apart, constant_fraction laws (map m.at ids) (m.at h) z apart)

@@ -1,8 +1,8 @@
 -- n coefficients are determined by what the polynomial is at n different points. Assumes nothing.
-use Rattle.std.proofs.Common.{◌≡◌, ℕ, suc, ◌≤◌, ◌≢◌, List, [], ◌∷◌, length, sym, refl, ap, ◌∙◌, ap₂, arith}
+use Rattle.std.proofs.Common.{◌≡◌, ◌≤◌, ◌≢◌, List, [], ◌∷◌, length, sym, refl, ap, ◌∙◌, ap₂, arith}
 use Rattle.fields.specs.Field.{Ops, FieldLaws, sub}
-use Rattle.std.specs.List.{AllByRecursion as All}
-use Rattle.circle.specs.Lists.{In, Distinct}
+use Rattle.std.specs.List.{AllByRecursion}
+use Rattle.circle.specs.Lists.{Distinct}
 use Rattle.circle.specs.Polynomial.{eval}
 use Rattle.fields.proofs.Ring.{ring, forms, from_one}
 use Rattle.circle.proofs.Lists.{all_of, all-at}
@@ -54,13 +54,13 @@ module _ {K : Type 0} {F : Ops K} (laws : FieldLaws F) where
 
   -- n coefficients are determined by what the polynomial is at n different points
   pub unique : (points f g : List K) → Distinct points → length f ≤ length points → length f ≡ length g
-      → All (λ s. eval F f s ≡ eval F g s) points → f ≡ g
+      → AllByRecursion (λ s. eval F f s ≡ eval F g s) points → f ≡ g
   unique points [] [] d n e same = refl
   unique points [] (c ∷ g) d n e same = absurd (omega arith)
   unique points (c ∷ f) [] d n e same = absurd (omega arith)
   unique [] (b ∷ f) (c ∷ g) d n e same = absurd (omega arith)
   unique (s ∷ points) (b ∷ f) (c ∷ g) d n e same =
-      let agree : All (λ x. eval F (suffixes F s f) x ≡ eval F (suffixes F s g) x) points =
+      let agree : AllByRecursion (λ x. eval F (suffixes F s f) x ≡ eval F (suffixes F s g) x) points =
       all_of _ points (λ x m. quotient_same (b ∷ f) (c ∷ g) s x (all-at (λ y. s ≢ y) points d.0 x m) same.0
       (all-at (λ y. eval F (b ∷ f) y ≡ eval F (c ∷ g) y) points same.1 x m)) in
       let f-length = length_suffixes laws.ring s f in

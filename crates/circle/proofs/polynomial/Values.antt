@@ -1,5 +1,5 @@
 -- The arithmetic of polynomials: what sums and multiples come to at a point, and division by a linear factor. Assumes nothing.
-use Rattle.std.proofs.Common.{◌≡◌, ℕ, zero, suc, ◌-◌, ◌≤◌, max, List, [], ◌∷◌, ◌++◌, length, replicate, sym, refl, ap, ◌∙◌, ap₂, arith, length-append}
+use Rattle.std.proofs.Common.{◌≡◌, ℕ, zero, suc, ◌-◌, ◌≤◌, max, List, [], ◌∷◌, ◌++◌, length, replicate, refl, ap, ◌∙◌, ap₂, arith, length-append}
 use lib.ListN.{length-replicate}
 use Rattle.fields.specs.Field.{Ops, RingLaws, sub}
 use Rattle.circle.specs.Polynomial.{eval}

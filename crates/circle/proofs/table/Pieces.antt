@@ -1,9 +1,10 @@
 -- The numbers of one place, and of all places one after another. Assumes nothing.
-use Rattle.std.proofs.Common.{◌≡◌, ℕ, zero, suc, ◌+◌, ◌*◌, ◌<◌, List, [], ◌∷◌, ◌++◌, length, take, drop, sym, refl, ap, ◌∙◌, suc-mul, zero-mul, arith, length-append}
+use Rattle.std.proofs.Common.{◌≡◌, ℕ, zero, suc, ◌+◌, ◌*◌, ◌<◌, List, [], ◌∷◌, ◌++◌, length, take, drop, sym, refl, ap, ◌∙◌, suc-mul, zero-mul, arith, length-append, length-drop, length-take}
 use Rattle.std.proofs.lemmas.List.{take_at}
 use Rattle.fields.specs.Field.{Ops}
 use Rattle.circle.specs.DealLaws.{plus}
 use Rattle.circle.specs.Table.{piece}
+use Rattle.circle.proofs.table.Grids.{piece_end}
 
 module _ {K : Type 0} where
   -- all places, one after another
@@ -32,6 +33,10 @@ module _ {K : Type 0} where
       ap (λ m. take d (drop m (u zero ++ rest))) far
       ∙ ap (take d) (drop-front (u zero) rest (p * d))
       ∙ piece_join n d p (λ q. u (suc q)) (omega arith) (λ q. long (suc q))
+
+pub length_piece : {K : Type 0} (n d p : ℕ) (numbers : List K) → p < n → length numbers ≡ n * d → length (piece d numbers p) ≡ d
+length_piece n d p numbers less long =
+    omega (arith, length-take d (drop (p * d) numbers), length-drop (p * d) numbers, piece_end p n d less)
 
 -- ## Sums of lists of numbers
 

@@ -16,7 +16,7 @@ fn copy_shares<F: Field>(id: u8, table: &[F], shares: &mut [F])
     requires high { id ≤ 32 }
     requires few { length shares.old ≤ 32 }
     requires table { length table.now ≡ 32 * length shares.old }
-    ensures { shares.new ≡ shares_of ops table.now id (length shares.old) }
+    ensures { shares.new ≡ shares_of F.ops table.now id (length shares.old) }
 {
     for p in 0..shares.len() {
         shares[p] = table[spot(p, id)];
@@ -30,8 +30,8 @@ pub fn show<F: Field>(
     table: &[F],
     shares: &mut [F],
 ) -> Result<(), Denial>
-    ensures answer { result ≡ show_answer points.largest (facts circle.now) id (length table.now) (length shares.old) }
-    ensures shares { shares.new ≡ show_shares ops result (facts circle.now) id table.now shares.old }
+    ensures answer { result ≡ show_answer F.points.largest (facts circle.now) id (length table.now) (length shares.old) }
+    ensures shares { shares.new ≡ show_shares F.ops result (facts circle.now) id table.now shares.old }
 {
     let places = circle.places as usize;
     if id < 1 || id > F::max_id() {

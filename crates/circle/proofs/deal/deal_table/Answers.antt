@@ -7,8 +7,8 @@ use Rattle.circle.proofs.deal.deal_table.Goals as goal
 pub loop-p-init : goal.loop-p-init
 loop-p-init g c = sym (filled_none _ c.args.table.now)
 
-pub piece-of-rest-requires : goal.piece-of-rest-requires
-piece-of-rest-requires g c = omega (arith, piece_end c.loop-p.p (length c.args.key.now) c.args.terms (omega arith))
+pub piece_of-rest-requires : goal.piece_of-rest-requires
+piece_of-rest-requires g c = omega (arith, piece_end c.loop-p.p (length c.args.key.now) c.args.terms (omega arith))
 
 pub loop-h-init : goal.loop-h-init
 loop-h-init g c = row_starts _ c.args.table.now c.loop-p.table (32 * c.loop-p.p) _ c.loop-p.invariant (omega arith)

@@ -5,10 +5,10 @@ use Rattle.circle.proofs.ids.Laws.{id_bounds, member_none, inserted_none, remove
 use Rattle.circle.proofs.ids.Masks.{member_mask, inserted_mask, removed_mask}
 use Rattle.circle.proofs.ids.mask.Goals as goal
 
-pub returns-then-is-id : goal.returns-then-is-id
-returns-then-is-id c =
+pub returns-then-is_id : goal.returns-then-is_id
+returns-then-is_id c =
     let h = c.args.id in
-    let id = sym c.if-is-id.ensures in
+    let id = sym c.if-is_id.ensures in
     let b = id_bounds h id in
     let one : (1 * 2 ^ (h - 1)) % 2 ^ 32 ≡ 2 ^ (h - 1) = one_shl (h - 1) 32 (omega arith) in
     record {
@@ -17,10 +17,10 @@ returns-then-is-id c =
       removes = λ set fits. ap (λ m. bit_and set (2 ^ 32 - 1 - m)) one ∙ removed_mask set h fits id;
     }
 
-pub returns-else-is-id : goal.returns-else-is-id
-returns-else-is-id c =
+pub returns-else-is_id : goal.returns-else-is_id
+returns-else-is_id c =
     let h = c.args.id in
-    let none = sym c.if-is-id.ensures in
+    let none = sym c.if-is_id.ensures in
     record {
       tests = λ set fits. ap (λ m. not (eqb m 0)) (and_zero_r set) ∙ sym (member_none set h fits none);
       inserts = λ set. or_zero_r set ∙ sym (inserted_none set h none);

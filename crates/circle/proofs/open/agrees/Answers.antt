@@ -1,4 +1,4 @@
-use Rattle.std.proofs.Common.{◌≡◌, sym, ap, ◌∙◌, arith}
+use Rattle.std.proofs.Common.{◌≡◌, sym, ◌∙◌}
 use Rattle.std.proofs.lemmas.List.{get_or_read}
 use Rattle.circle.specs.Open.{face, faces, lies_at}
 use Rattle.circle.proofs.Tests.{count_fails, count_goes_on, count_ends}
@@ -17,7 +17,7 @@ returns-then-not-same g c =
     let first = faces c.args.first.now in
     let p = c.loop-p.p in
     let test = lies_at m.ops m.points.at m.equality.same first (face card) in
-    let sum = sum_of m.ops m.points.at p c.point-of.result first c.args.ids.now (m.held c.constants-weights.result) c.requires.fixing.same c.constants-weights.ensures in
+    let sum = sum_of m.ops m.points.at p c.point_of.result first c.args.ids.now (m.held c.constants-weights.result) c.requires.fixing.same c.constants-weights.ensures in
     let within = share_within c.args.places p (face card) c.loop-p-test.true c.requires.long in
     let share = get_or_read card.shares.now p c.index-shares-p.result within c.index-shares-p.is m.ops.zero in
     let tested : c.same.result ≡ test p = cc in
@@ -30,7 +30,7 @@ loop-p-preserved g c =
     let first = faces c.args.first.now in
     let p = c.loop-p.p in
     let test = lies_at m.ops m.points.at m.equality.same first (face card) in
-    let sum = sum_of m.ops m.points.at p c.point-of.result first c.args.ids.now (m.held c.constants-weights.result) c.requires.fixing.same c.constants-weights.ensures in
+    let sum = sum_of m.ops m.points.at p c.point_of.result first c.args.ids.now (m.held c.constants-weights.result) c.requires.fixing.same c.constants-weights.ensures in
     let within = share_within c.args.places p (face card) c.loop-p-test.true c.requires.long in
     let share = get_or_read card.shares.now p c.index-shares-p.result within c.index-shares-p.is m.ops.zero in
     let tested : c.same.result ≡ test p = cc in

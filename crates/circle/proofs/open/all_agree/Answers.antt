@@ -14,7 +14,7 @@ agrees-requires g c =
     let read = face_read later i c.loop-card-test.true card c.card-item.is in
     record {
       fixing = c.requires.fixing;
-      own = each_read (id_known g.F.Field.points.largest) (faces later) i (face card) c.requires.own_val within read;
+      own = each_read (id_known g.F.Field.points.largest) (faces later) i (face card) c.requires.own within read;
       long = each_read (as_long c.args.places) (faces later) i (face card) c.requires.long within read;
     }
 

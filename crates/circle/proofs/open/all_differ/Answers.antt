@@ -5,15 +5,15 @@ use Rattle.circle.specs.Open.{face, faces, other_id}
 use Rattle.circle.proofs.open.Cards.{face_within, face_read, differ_fails, differ_goes_on, differ_ends}
 use Rattle.circle.proofs.open.all_differ.Goals as goal
 
-pub returns-then-not-all-meet : goal.returns-then-not-all-meet
-returns-then-not-all-meet g c =
+pub returns-then-not-all_meet : goal.returns-then-not-all_meet
+returns-then-not-all_meet g c =
     let cards = c.args.cards.now in
     let i = c.loop-i.i in
     let card = c.index-cards-i.result in
     let within = c.loop-i-test.true in
     let rest = ap (list_all (other_id card.id)) (drop-map face (i + 1) cards) in
     differ_fails (faces cards) i (face card) (face_within cards i within) (face_read cards i within card c.index-cards-i.is)
-    (rest ∙ sym (simp take_rest at c.all-meet.ensures) ∙ c.if-not-all-meet.true) c.loop-i.invariant
+    (rest ∙ sym (simp take_rest at c.all_meet.ensures) ∙ c.if-not-all_meet.true) c.loop-i.invariant
 
 pub loop-i-preserved : goal.loop-i-preserved
 loop-i-preserved g c =
@@ -23,7 +23,7 @@ loop-i-preserved g c =
     let within = c.loop-i-test.true in
     let rest = ap (list_all (other_id card.id)) (drop-map face (i + 1) cards) in
     differ_goes_on (faces cards) i (face card) (face_within cards i within) (face_read cards i within card c.index-cards-i.is)
-    (rest ∙ sym (simp take_rest at c.all-meet.ensures) ∙ c.if-not-all-meet.false) c.loop-i.invariant
+    (rest ∙ sym (simp take_rest at c.all_meet.ensures) ∙ c.if-not-all_meet.false) c.loop-i.invariant
 
 pub returns : goal.returns
 returns g c =

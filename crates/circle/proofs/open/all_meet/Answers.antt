@@ -6,15 +6,15 @@ use Rattle.circle.proofs.Tests.{each_fails, each_goes_on, each_ends}
 use Rattle.circle.proofs.open.Cards.{face_within, face_read}
 use Rattle.circle.proofs.open.all_meet.Goals as goal
 
-pub returns-then-not-meets-one : goal.returns-then-not-meets-one
-returns-then-not-meets-one g c =
+pub returns-then-not-meets_one : goal.returns-then-not-meets_one
+returns-then-not-meets_one g c =
     let cards = c.args.cards.now in
     let i = c.loop-card.card-index in
     let card = c.card-item.result in
     let within = c.loop-card-test.true in
     each_fails (meets g.F.Field.points.largest c.args.asked) (faces cards) i (face card)
     (face_within cards i within) (face_read cards i within card c.card-item.is)
-    (sym c.meets-one.ensures ∙ c.if-not-meets-one.true) c.loop-card.invariant
+    (sym c.meets_one.ensures ∙ c.if-not-meets_one.true) c.loop-card.invariant
 
 pub loop-card-preserved : goal.loop-card-preserved
 loop-card-preserved g c =
@@ -24,7 +24,7 @@ loop-card-preserved g c =
     let within = c.loop-card-test.true in
     each_goes_on (meets g.F.Field.points.largest c.args.asked) (faces cards) i (face card)
     (face_within cards i within) (face_read cards i within card c.card-item.is)
-    (sym c.meets-one.ensures ∙ c.if-not-meets-one.false) c.loop-card.invariant
+    (sym c.meets_one.ensures ∙ c.if-not-meets_one.false) c.loop-card.invariant
 
 pub returns : goal.returns
 returns g c =

@@ -1,6 +1,6 @@
-use Rattle.std.proofs.Common.{◌≡◌, ◌<◌, [], ◌∷◌, ◌++◌, length, get_or, take, sym, ap, ◌∙◌, ap₂, arith, length-set}
-use Rattle.std.proofs.lemmas.List.{take_more, take_more_set, take_all, length-map, get_or-map}
-use Rattle.circle.specs.Open.{Face, face, faces}
+use Rattle.std.proofs.Common.{◌≡◌, ◌<◌, [], ◌∷◌, ◌++◌, length, take, sym, ap, ◌∙◌, ap₂, arith, length-set}
+use Rattle.std.proofs.lemmas.List.{take_more, take_more_set, take_all}
+use Rattle.circle.specs.Open.{faces}
 use Rattle.circle.specs.OpenParts.{ids_of}
 use Rattle.circle.proofs.open.Cards.{ids_length, id_read}
 use Rattle.circle.proofs.open.ids_on.Goals as goal

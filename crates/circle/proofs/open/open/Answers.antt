@@ -13,11 +13,11 @@ use Rattle.circle.proofs.open.open.Goals as goal
 pub returns-then-cards-threshold : goal.returns-then-cards-threshold
 returns-then-cards-threshold g c = let long = length-map c.args.cards.now (λ x. face x) in search rules
 
-pub returns-then-not-all-differ : goal.returns-then-not-all-differ
-returns-then-not-all-differ g c = let long = length-map c.args.cards.now (λ x. face x) in search rules
+pub returns-then-not-all_differ : goal.returns-then-not-all_differ
+returns-then-not-all_differ g c = let long = length-map c.args.cards.now (λ x. face x) in search rules
 
-pub returns-then-not-all-meet-4 : goal.returns-then-not-all-meet-4
-returns-then-not-all-meet-4 g c = let long = length-map c.args.cards.now (λ x. face x) in search rules
+pub returns-then-not-all_meet-4 : goal.returns-then-not-all_meet-4
+returns-then-not-all_meet-4 g c = let long = length-map c.args.cards.now (λ x. face x) in search rules
 
 -- ## What the parts of the list pass
 
@@ -28,10 +28,10 @@ settle-requires g c =
     let cards = c.args.cards.now in
     let largest = g.F.Field.points.largest in
     let n = length c.args.key.now in
-    let known = sym c.all-meet.ensures ∙ c.if-not-all-meet.false in
+    let known = sym c.all_meet.ensures ∙ c.if-not-all_meet.false in
     let long : list_all (as_long n) (faces cards) ≡ true =
-    ap (λ k. list_all (as_long k) (faces cards)) c.if-key-places.false ∙ sym c.all-meet-2.ensures ∙ c.if-not-all-meet-2.false in
-    let differ = sym c.all-differ.ensures ∙ c.if-not-all-differ.false in
+    ap (λ k. list_all (as_long k) (faces cards)) c.if-key-places.false ∙ sym c.all_meet-2.ensures ∙ c.if-not-all_meet-2.false in
+    let differ = sym c.all_differ.ensures ∙ c.if-not-all_differ.false in
     let few : t ≤ 32 = omega (arith, circle.high, ones-le 32 circle.roll (search rules)) in
     record {
       fixing = subst (λ cs. Fixing largest n (ids_of cs) cs) (take-map face t cards) (fixing_first largest n t (faces cards) few known long differ);

@@ -7,8 +7,8 @@ use Rattle.circle.proofs.Tests.{each_read}
 use Rattle.circle.proofs.open.Cards.{face_within, face_read, share_within, weighted_more}
 use Rattle.circle.proofs.open.total.Goals as goal
 
-pub offset-bounds-shares-p : goal.offset-bounds-shares-p
-offset-bounds-shares-p g c =
+pub offset_bounds-shares-p : goal.offset_bounds-shares-p
+offset_bounds-shares-p g c =
     let cards = c.args.cards.now in
     let i = c.loop-i.i in
     let card = c.index-cards-i.result in

@@ -1,5 +1,4 @@
 use Rattle.std.proofs.Common.{map, length, get_or, set, ap, ◌∙◌, arith, length-set}
-use lib.ListN.{length-replicate}
 use Rattle.std.proofs.lemmas.List.Edits.{fill_by_more}
 use Rattle.circle.specs.Polynomial.{constant_of}
 use Rattle.circle.proofs.polynomial.constants.Goals as goal

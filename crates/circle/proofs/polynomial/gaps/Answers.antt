@@ -6,8 +6,8 @@ use Rattle.circle.proofs.Tests.{each_at}
 use Rattle.circle.proofs.polynomial.Loops.{gaps_more}
 use Rattle.circle.proofs.polynomial.gaps.Goals as goal
 
-pub point-of-k-requires : goal.point-of-k-requires
-point-of-k-requires g c =
+pub point_of-k-requires : goal.point_of-k-requires
+point_of-k-requires g c =
     each_at (has_point g.F.Field.points.largest) c.args.ids.now c.loop-id.id-index 0 c.requires c.loop-id-test.true
 
 pub loop-id-init : goal.loop-id-init

@@ -1,7 +1,7 @@
 use Rattle.std.proofs.Common.{refl}
 use lib.Count.{ones}
 use Rattle.circle.specs.Table.{grid}
-use Rattle.circle.proofs.examples.worked_examples.Goals as goal
+use Rattle.circle.proofs.examples.examples_shown.Goals as goal
 
 pub returns : goal.returns
 unfolding grid ones

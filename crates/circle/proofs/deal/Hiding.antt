@@ -1,6 +1,6 @@
 -- Fewer holders than the threshold learn nothing of the key. Assumes nothing.
-use Rattle.std.proofs.Common.{◌≡◌, ℕ, suc, ◌+◌, ◌-◌, ◌*◌, ◌^◌, ◌<◌, ◌≤◌, Bool, true, false, cond, leb, ◌≢◌, List, [], ◌∷◌, map, length, get_or, drop, Ok, filter, sym, refl, ap, ◌∙◌, subst, ap₂, arith, length-drop, length-take}
-use Rattle.std.specs.List.{list_all, AllByRecursion as All}
+use Rattle.std.proofs.Common.{◌≡◌, ℕ, suc, ◌-◌, ◌*◌, ◌^◌, ◌<◌, ◌≤◌, Bool, true, false, cond, leb, ◌≢◌, List, [], ◌∷◌, map, length, get_or, Ok, filter, sym, refl, ap, ◌∙◌, subst, ap₂, arith}
+use Rattle.std.specs.List.{list_all, AllByRecursion}
 use Rattle.std.proofs.ByRecursion.{kept_by_passes}
 use Rattle.std.proofs.lemmas.List.{length-map}
 use Rattle.std.proofs.lemmas.Bool.{and_from, le-leb}
@@ -9,19 +9,18 @@ use Rattle.fields.proofs.Ring.{ring, forms, from_one}
 use Rattle.circle.specs.Deal.{dealt, deal_answer, deal_table}
 use Rattle.circle.specs.DealLaws.{plus, Hides}
 use Rattle.circle.specs.Ids.{member, members, size, within_largest, has_point}
-use Rattle.circle.specs.Lists.{In, Distinct}
+use Rattle.circle.specs.Lists.{Distinct}
 use Rattle.circle.specs.Polynomial.{eval, polynomial}
-use Rattle.circle.specs.State.{Facts}
-use Rattle.circle.specs.Table.{entry, grid, piece}
+use Rattle.circle.specs.Table.{entry, piece}
 use Rattle.circle.proofs.Lists.{all_of, all-at, mem-map, all_map}
 use Rattle.circle.proofs.Tests.{pass_all}
 use Rattle.circle.proofs.deal.Answered.{deal_met}
-use Rattle.circle.proofs.ids.Laws.{on_member, member_id, id_bounds, within_known, members_in, members_ascend, members_size}
+use Rattle.circle.proofs.ids.Laws.{member_id, id_bounds, within_known, members_in, members_ascend, members_size}
 use Rattle.circle.proofs.ids.Lists.{ascends_kept, ascends_distinct, kept_in}
 use Rattle.circle.proofs.polynomial.Hiding.{hiding}
 use Rattle.circle.proofs.polynomial.Loops.{point_known, points_differ}
-use Rattle.circle.proofs.table.Grids.{grid_at, piece_end}
-use Rattle.circle.proofs.table.Pieces.{join, length_join, piece_join, length_plus, piece_plus}
+use Rattle.circle.proofs.table.Grids.{grid_at}
+use Rattle.circle.proofs.table.Pieces.{join, piece_join, length_piece, length_plus, piece_plus}
 
 length_kept : {A : Type 0} (p : A → Bool) (xs : List A) → length (filter p xs) ≤ length xs
 length_kept p [] = omega arith
@@ -40,19 +39,19 @@ module _ {K : Type 0} {F : Ops K} (laws : FieldLaws F) where
   -- ## One place
 
   -- n numbers that, after the constant term d, are zero at fewer than n + 1 points
-  mask : (known : List K) (t : ℕ) (d : K) → Distinct known → All (λ a. a ≢ 𝟘) known → length known < t
-      → (g : List K) × (length g ≡ t - 1) × All (λ a. d ⊕ a ⊗ eval F g a ≡ 𝟘) known
+  mask : (known : List K) (t : ℕ) (d : K) → Distinct known → AllByRecursion (λ a. a ≢ 𝟘) known → length known < t
+      → (g : List K) × (length g ≡ t - 1) × AllByRecursion (λ a. d ⊕ a ⊗ eval F g a ≡ 𝟘) known
   mask known t d apart nonzero few = go h.0 h.1 h.2 h.3
     where
-      h : (f : List K) × (length f ≡ t) × (eval F f 𝟘 ≡ d) × All (λ a. eval F f a ≡ 𝟘) known
+      h : (f : List K) × (length f ≡ t) × (eval F f 𝟘 ≡ d) × AllByRecursion (λ a. eval F f a ≡ 𝟘) known
       h = hiding laws known t d apart nonzero few
 
-      go : (f : List K) → length f ≡ t → eval F f 𝟘 ≡ d → All (λ a. eval F f a ≡ 𝟘) known
-          → (g : List K) × (length g ≡ t - 1) × All (λ a. d ⊕ a ⊗ eval F g a ≡ 𝟘) known
+      go : (f : List K) → length f ≡ t → eval F f 𝟘 ≡ d → AllByRecursion (λ a. eval F f a ≡ 𝟘) known
+          → (g : List K) × (length g ≡ t - 1) × AllByRecursion (λ a. d ⊕ a ⊗ eval F g a ≡ 𝟘) known
       go [] long at_zero hidden = absurd (omega arith)
       go (c ∷ g) long at_zero hidden =
           let first : c ≡ d = ring laws.ring (c ∷ eval F g 𝟘 ∷ []) (search forms depth 9) (search forms depth 9) refl ∙ at_zero in
-          (g, omega arith, subst (λ u. All (λ a. u ⊕ a ⊗ eval F g a ≡ 𝟘) known) first hidden)
+          (g, omega arith, subst (λ u. AllByRecursion (λ a. u ⊕ a ⊗ eval F g a ≡ 𝟘) known) first hidden)
 
   eval_plus : (f g : List K) (x : K) → length f ≡ length g → eval F (plus F f g) x ≡ eval F f x ⊕ eval F g x
   eval_plus [] [] x e = ring laws.ring [] (search forms depth 9) (search forms depth 9) refl
@@ -73,7 +72,7 @@ module _ {K : Type 0} {F : Ops K} (laws : FieldLaws F) where
       shifted u v h =
           from_one laws.ring 𝟙 h (ring laws.ring (k ∷ k' ∷ a ∷ u ∷ v ∷ []) (search forms depth 9) (search forms depth 9) refl)
 
-  -- ## All places
+  -- ## AllByRecursion places
 
   module _ (m : Points F) (chosen t : ℕ) (fits : chosen < 2 ^ 32) (few : size chosen < t) where
     -- the chosen ids that have a point, and their points
@@ -89,7 +88,7 @@ module _ {K : Type 0} {F : Ops K} (laws : FieldLaws F) where
     apart : Distinct known
     apart = points_differ m ids ids_pass (ascends_distinct ids (ascends_kept (has_point m.largest) (members chosen) (members_ascend chosen)))
 
-    nonzero : All (λ a. a ≢ 𝟘) known
+    nonzero : AllByRecursion (λ a. a ≢ 𝟘) known
     nonzero =
         all_map m.at (λ a. a ≢ 𝟘) ids
         (all_of (λ h. m.at h ≢ 𝟘) ids
@@ -99,7 +98,7 @@ module _ {K : Type 0} {F : Ops K} (laws : FieldLaws F) where
     short = omega (arith, length-map ids m.at, length_kept (has_point m.largest) (members chosen), members_size chosen fits)
 
     -- the mask at the place p, for two keys
-    masked : (key key' : List K) (p : ℕ) → (g : List K) × (length g ≡ t - 1) × All (λ a. sub F (get_or key' p 𝟘) (get_or key p 𝟘) ⊕ a ⊗ eval F g a ≡ 𝟘) known
+    masked : (key key' : List K) (p : ℕ) → (g : List K) × (length g ≡ t - 1) × AllByRecursion (λ a. sub F (get_or key' p 𝟘) (get_or key p 𝟘) ⊕ a ⊗ eval F g a ≡ 𝟘) known
     masked key key' p = mask known t (sub F (get_or key' p 𝟘) (get_or key p 𝟘)) apart nonzero short
 
     abbrev shift : ℕ → List K → List K → List K
@@ -121,7 +120,7 @@ module _ {K : Type 0} {F : Ops K} (laws : FieldLaws F) where
             piece_plus F (t - 1) p numbers (shift places key key')
             ∙ ap (plus F (piece (t - 1) numbers p)) (piece_join places (t - 1) p (λ q. (masked key key' q).0) less (λ q. (masked key key' q).1)) in
             let room : length (piece (t - 1) numbers p) ≡ length g.0 =
-            omega (arith, length-take (t - 1) (drop (p * (t - 1)) numbers), length-drop (p * (t - 1)) numbers, g.1, piece_end p places (t - 1) less) in
+            length_piece places (t - 1) p numbers less long ∙ sym g.1 in
             let id = member_id chosen h fits mine in
             let pointed : has_point m.largest h ≡ true =
             and_from (leb 1 h) (leb h m.largest) (le-leb 1 h (id_bounds h id).0) (le-leb h m.largest (within_known roll m.largest h within on)) in

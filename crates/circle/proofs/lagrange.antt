@@ -1,0 +1,2 @@
+-- What the proofs of Lagrange's constants use.
+pub mod Sets

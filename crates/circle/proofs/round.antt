@@ -1,0 +1,2 @@
+-- What the proofs of rounds use.
+pub mod Begins

@@ -1,0 +1,2 @@
+-- What the proofs of contributing use.
+pub mod Portions

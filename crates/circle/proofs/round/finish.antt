@@ -1,0 +1,2 @@
+-- What the proofs of finishing use.
+pub mod Shares
