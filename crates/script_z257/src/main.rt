@@ -1,5 +1,7 @@
 //! Reads a script from standard input, and answers each of its lines.
 
+#![tactic(auto)]
+
 use station::run::answer_all;
 use std::io;
 

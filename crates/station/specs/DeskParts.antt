@@ -15,11 +15,11 @@ module _ {K : Type 0} (F : Ops K) (fin : Finite K) (m : Points F) where
     pub written : table ≡ deal_table F m.at answer (elements F fin key) (elements F fin ns) (replicate (32 * min places 32) F.zero)
 
   -- shares shown in new memory: the answer, and the memory
-  pub record Shown-new (c : Facts) (id : ℕ) (table : List K) (answer : Result (Unit {0}) Denial) (shares : List K) : Type 0 where
+  pub record ShownNew (c : Facts) (id : ℕ) (table : List K) (answer : Result (Unit {0}) Denial) (shares : List K) : Type 0 where
     pub answered : answer ≡ show_answer m.largest c id (length table) c.places
     pub written : shares ≡ show_shares F answer c id table (replicate c.places F.zero)
 
   -- a key opened in new memory: the answer, and the memory
-  pub record Opened-new (same : K → K → Bool) (c : Facts) (cards : List (Face K)) (answer : Result (Unit {0}) Denial) (key : List K) : Type 0 where
+  pub record OpenedNew (same : K → K → Bool) (c : Facts) (cards : List (Face K)) (answer : Result (Unit {0}) Denial) (key : List K) : Type 0 where
     pub answered : answer ≡ open_answer F m.at same m.largest c cards c.places
     pub written : key ≡ open_key F m.at answer c cards (replicate c.places F.zero)

@@ -1,5 +1,5 @@
 -- The one spelling of a step, and the laws of the grammar: a line of the form is the spelling of its step.
-use Rattle.std.specs.Prelude.{◌≡◌, ℕ, ◌≤◌, List, [], ◌∷◌, ◌++◌, Some, codes, decimal}
+use Rattle.std.specs.Prelude.{◌≡◌, ℕ, ◌≤◌, List, ◌∷◌, ◌++◌, Some, codes, decimal}
 use Rattle.std.specs.List.{flat_map}
 use Rattle.station.specs.Grammar.{number}
 use Rattle.station.specs.Script.{Stated, Meaning, named, dealt, shown, opened, form}

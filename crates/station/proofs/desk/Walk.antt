@@ -1,13 +1,13 @@
 -- A walk over the cards of a line, with their places. Assumes nothing.
-use Rattle.std.proofs.Common.{◌≡◌, ℕ, ◌+◌, ◌-◌, ◌<◌, ◌≤◌, true, ◌&&◌, ltb, leb, List, [], ◌∷◌, ◌++◌, map, length, get_or, take, drop, Some, sym, refl, ap, ◌∙◌, ap₂, append_assoc, arith, length-drop, length-take}
+use Rattle.std.proofs.Common.{◌≡◌, ℕ, ◌+◌, ◌≤◌, ltb, leb, List, [], ◌∷◌, ◌++◌, map, length, get_or, take, drop, Some, sym, ap, ◌∙◌, append_assoc, arith, length-drop, length-take}
 use Rattle.std.proofs.lemmas.List.{length-map, take-map, drop-map, drop-drop, drop-take, map-append}
 use Rattle.std.proofs.lemmas.Bool.{and_parts, leb-true}
 use Rattle.fields.specs.Field.{Ops, Points, Finite}
 use Rattle.circle.specs.Open.{Face, face, faces}
 use Rattle.circle.specs.declared.card.Card.{Card}
 use Rattle.station.specs.Desk.{element_of, elements, face_of}
-use Rattle.station.specs.Grammar.{split, before, is_slash, value, values, sections, part}
-use Rattle.station.specs.Script.{Stated, in_range, is_lone_id, is_card, stated, cards, card_section, next_card}
+use Rattle.station.specs.Grammar.{split, before, is_slash, value, values, part}
+use Rattle.station.specs.Script.{Stated, in_range, is_lone_id, stated, cards, card_section, next_card}
 use Rattle.station.specs.declared.grammar.Token.{Token}
 use Rattle.station.proofs.grammar.Laws.{part_values, first-is, first_long}
 use Rattle.station.proofs.script.Laws.{next_some}

@@ -5,7 +5,7 @@ ghost use Rattle.circle.specs.Ids.{inserted};
 ghost use Rattle.circle.specs.Open.{faces};
 ghost use Rattle.circle.specs.State.{answered, facts};
 ghost use Rattle.station.specs.Desk.{kept, nothing, standing, said_of, set_of, element_of, elements, numbers, deal_said, deal_kept, show_said, open_said, face_of};
-ghost use Rattle.station.specs.DeskParts.{DealtNew, Shown-new, Opened-new};
+ghost use Rattle.station.specs.DeskParts.{DealtNew, ShownNew, OpenedNew};
 ghost use Rattle.station.specs.Grammar.{sections, value, values};
 ghost use Rattle.station.specs.Script.{cards, open_stands, stated};
 
@@ -27,7 +27,7 @@ const NOT_ALLOWED: u8 = 2;
 
 // The element that a token's number names.
 fn element_of<F: Field>(token: Token) -> F
-    ensures { result ≡ element_of ops finite (value token) }
+    ensures { result ≡ element_of F.ops F.finite (value token) }
 {
     match F::element(u32::from(token.value())) {
         Some(x) => x,
@@ -37,7 +37,7 @@ fn element_of<F: Field>(token: Token) -> F
 
 // The elements that tokens name.
 fn elements_of<F: Field>(heap: Global, tokens: &[Token]) -> Result<Vec<F>, AllocError>
-    ensures { IfOk result (λ v. v.items ≡ elements ops finite (values tokens.now)) }
+    ensures { IfOk result (λ v. v.items ≡ elements F.ops F.finite (values tokens.now)) }
 {
     let mut all = Vec::new(heap);
     for token in tokens {
@@ -48,7 +48,7 @@ fn elements_of<F: Field>(heap: Global, tokens: &[Token]) -> Result<Vec<F>, Alloc
 
 // So many zeros.
 fn zeros<F: Field>(heap: Global, n: usize) -> Result<Vec<F>, AllocError>
-    ensures { IfOk result (λ v. v.items ≡ replicate n ops.zero) }
+    ensures { IfOk result (λ v. v.items ≡ replicate n F.ops.zero) }
 {
     let mut all = Vec::new(heap);
     for i in 0..n {
@@ -80,7 +80,7 @@ fn with_id(set: u32, id: u16) -> u32
 
 // Says the numbers of elements.
 fn say_elements<F: Field>(xs: &[F], said: &mut Vec<u32>) -> Result<(), AllocError>
-    ensures { OnOk result (said.new.items ≡ said.old.items ++ numbers ops finite xs.now) }
+    ensures { OnOk result (said.new.items ≡ said.old.items ++ numbers F.ops F.finite xs.now) }
 {
     for x in xs {
         said.push(x.number())?;
@@ -107,7 +107,7 @@ fn deal_new<F: Field>(
     key: &[Token],
     numbers: &[Token],
 ) -> Result<(Result<Circle<F>, Denial>, Vec<F>), AllocError>
-    ensures { IfOk result (λ d. DealtNew ops finite points threshold places (values ids.now) (values key.now) (values numbers.now) (answered d.0) d.1.items) }
+    ensures { IfOk result (λ d. DealtNew F.ops F.finite F.points threshold places (values ids.now) (values key.now) (values numbers.now) (answered d.0) d.1.items) }
 {
     let roll = set_of(ids);
     let key: Vec<F> = elements_of(heap, key)?;
@@ -131,7 +131,7 @@ fn show_new<F: Field>(
     id: u8,
     table: &[F],
 ) -> Result<(Result<(), Denial>, Vec<F>), AllocError>
-    ensures { IfOk result (λ d. Shown-new ops finite points (facts circle.now) id table.now d.0 d.1.items) }
+    ensures { IfOk result (λ d. ShownNew F.ops F.finite F.points (facts circle.now) id table.now d.0 d.1.items) }
 {
     let mut shares: Vec<F> = zeros(heap, usize::from(circle.places()))?;
     let answer = show(circle, id, table, shares.as_mut_slice());
@@ -146,7 +146,7 @@ fn say_card<F: Field>(
     said: &mut Vec<u32>,
 ) -> Result<(), AllocError>
     requires { said.old.items ≡ [] }
-    ensures { OnOk result (said.new.items ≡ id ∷ epoch ∷ numbers ops finite shares.now) }
+    ensures { OnOk result (said.new.items ≡ id ∷ epoch ∷ numbers F.ops F.finite shares.now) }
 {
     said.push(u32::from(id))?;
     said.push(u32::from(epoch))?;
@@ -162,7 +162,7 @@ fn show_card<F: Field>(
     said: &mut Vec<u32>,
 ) -> Result<Answer, AllocError>
     requires { said.old.items ≡ [] }
-    ensures { IfOk result (λ a. said_of a said.new.items ≡ show_said ops finite points (Some (facts circle.now)) table.now id) }
+    ensures { IfOk result (λ a. said_of a said.new.items ≡ show_said F.ops F.finite F.points (Some (facts circle.now)) table.now id) }
 {
     let (answer, shares) = show_new(heap, circle, id, table)?;
     match answer {
@@ -188,9 +188,9 @@ fn cards_of<'a, F: Field>(
     tokens: &[Token],
     xs: &'a [F],
 ) -> Result<Vec<Card<'a, F>>, AllocError>
-    requires stand { open_stands finite.size (sections tokens.now) ≡ true }
-    requires named { xs.now ≡ elements ops finite (values tokens.now) }
-    ensures { IfOk result (λ v. faces v.items ≡ map (face_of ops finite points) (map stated (cards tokens.now))) }
+    requires stand { open_stands F.finite.size (sections tokens.now) ≡ true }
+    requires named { xs.now ≡ elements F.ops F.finite (values tokens.now) }
+    ensures { IfOk result (λ v. faces v.items ≡ map (face_of F.ops F.finite F.points) (map stated (cards tokens.now))) }
 {
     let mut all = Vec::new(heap);
     let mut left = tokens;
@@ -216,7 +216,7 @@ fn open_new<F: Field>(
     circle: &Circle<F>,
     cards: &[Card<'_, F>],
 ) -> Result<(Result<(), Denial>, Vec<F>), AllocError>
-    ensures { IfOk result (λ d. Opened-new ops finite points equality.same (facts circle.now) (faces cards.now) d.0 d.1.items) }
+    ensures { IfOk result (λ d. OpenedNew F.ops F.finite F.points F.equality.same (facts circle.now) (faces cards.now) d.0 d.1.items) }
 {
     let mut key: Vec<F> = zeros(heap, usize::from(circle.places()))?;
     let answer = open(circle, cards, key.as_mut_slice());
@@ -231,8 +231,8 @@ fn open_cards<F: Field>(
     said: &mut Vec<u32>,
 ) -> Result<Answer, AllocError>
     requires blank { said.old.items ≡ [] }
-    requires stand { open_stands finite.size (sections tokens.now) ≡ true }
-    ensures { IfOk result (λ a. said_of a said.new.items ≡ open_said ops finite points equality.same (Some (facts circle.now)) (map stated (cards tokens.now))) }
+    requires stand { open_stands F.finite.size (sections tokens.now) ≡ true }
+    ensures { IfOk result (λ a. said_of a said.new.items ≡ open_said F.ops F.finite F.points F.equality.same (Some (facts circle.now)) (map stated (cards tokens.now))) }
 {
     let xs: Vec<F> = elements_of(heap, tokens)?;
     let cards = cards_of(heap, tokens, xs.as_slice())?;
@@ -268,8 +268,8 @@ impl<F: Field> Desk<F> {
         numbers: &[Token],
         said: &mut Vec<u32>,
     ) -> Result<Answer, AllocError>
-        ensures said { IfOk result (λ a. said_of a said.new.items ≡ deal_said ops finite points (kept self.old).circle threshold places (values ids.now) (values key.now) (values numbers.now)) }
-        ensures kept { OnOk result (kept self.new ≡ deal_kept ops finite points (kept self.old) (kept self.old).circle threshold places (values ids.now) (values key.now) (values numbers.now)) }
+        ensures said { IfOk result (λ a. said_of a said.new.items ≡ deal_said F.ops F.finite F.points (kept self.old).circle threshold places (values ids.now) (values key.now) (values numbers.now)) }
+        ensures kept { OnOk result (kept self.new ≡ deal_kept F.ops F.finite F.points (kept self.old) (kept self.old).circle threshold places (values ids.now) (values key.now) (values numbers.now)) }
     {
         said.clear();
         if self.circle.is_some() {
@@ -294,7 +294,7 @@ impl<F: Field> Desk<F> {
         id: u8,
         said: &mut Vec<u32>,
     ) -> Result<Answer, AllocError>
-        ensures { IfOk result (λ a. said_of a said.new.items ≡ show_said ops finite points (kept self.now).circle (kept self.now).table id) }
+        ensures { IfOk result (λ a. said_of a said.new.items ≡ show_said F.ops F.finite F.points (kept self.now).circle (kept self.now).table id) }
     {
         said.clear();
         match &self.circle {
@@ -310,8 +310,8 @@ impl<F: Field> Desk<F> {
         tokens: &[Token],
         said: &mut Vec<u32>,
     ) -> Result<Answer, AllocError>
-        requires { open_stands finite.size (sections tokens.now) ≡ true }
-        ensures { IfOk result (λ a. said_of a said.new.items ≡ open_said ops finite points equality.same (kept self.now).circle (map stated (cards tokens.now))) }
+        requires { open_stands F.finite.size (sections tokens.now) ≡ true }
+        ensures { IfOk result (λ a. said_of a said.new.items ≡ open_said F.ops F.finite F.points F.equality.same (kept self.now).circle (map stated (cards tokens.now))) }
     {
         said.clear();
         match &self.circle {

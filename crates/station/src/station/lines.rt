@@ -25,9 +25,9 @@ fn step_at<F: Field>(
     step: Step<'_>,
     said: &mut Vec<u32>,
 ) -> Result<Answer, AllocError>
-    requires { step_stands finite.size step ≡ true }
-    ensures said { IfOk result (λ a. said_of a said.new.items ≡ desk_said ops finite points equality.same (kept desk.old) (meaning step.entry)) }
-    ensures kept { OnOk result (kept desk.new ≡ desk_kept ops finite points equality.same (kept desk.old) (meaning step.entry)) }
+    requires { step_stands F.finite.size step ≡ true }
+    ensures said { IfOk result (λ a. said_of a said.new.items ≡ desk_said F.ops F.finite F.points F.equality.same (kept desk.old) (meaning step.entry)) }
+    ensures kept { OnOk result (kept desk.new ≡ desk_kept F.ops F.finite F.points F.equality.same (kept desk.old) (meaning step.entry)) }
 {
     match step {
         Step::Name(_) => Ok(Answer::No(NOT_ALLOWED)),

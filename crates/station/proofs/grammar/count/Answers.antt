@@ -4,18 +4,18 @@ use Rattle.station.specs.Grammar.{split, is_slash, values}
 use Rattle.station.specs.declared.grammar.Token.TheVariants.{Number}
 use Rattle.station.proofs.grammar.Laws.{parts_more, parts_same}
 use Rattle.station.proofs.grammar.count.Goals as goal
-use Rattle.station.proofs.grammar.count.Goals.{then-is-slash, else-is-slash}
+use Rattle.station.proofs.grammar.count.Goals.{then-is_slash, else-is_slash}
 
 pub loop-token-preserved : goal.loop-token-preserved
 loop-token-preserved c =
     let ts = c.args.tokens.now in
     let i = c.loop-token.token-index in
-    elim c.if-is-slash.branch [
-      | then-is-slash w ↦
-          let more = parts_more is_slash ts i (Number 0) c.loop-token-test.true (sym w.if-is-slash.ensures) in
+    elim c.if-is_slash.branch [
+      | then-is_slash w ↦
+          let more = parts_more is_slash ts i (Number 0) c.loop-token-test.true (sym w.if-is_slash.ensures) in
           (omega (arith, w.slashes-is), omega (arith, more, w.slashes-is, c.loop-token.invariant.1))
-      | else-is-slash w ↦
-          let same = parts_same is_slash ts i (Number 0) c.loop-token-test.true (sym w.if-is-slash.ensures) in
+      | else-is_slash w ↦
+          let same = parts_same is_slash ts i (Number 0) c.loop-token-test.true (sym w.if-is_slash.ensures) in
           (omega (arith, w.slashes-is), omega (arith, same, w.slashes-is, c.loop-token.invariant.1))
     ]
 

@@ -5,10 +5,10 @@ use Rattle.station.specs.Grammar.{read_on}
 use Rattle.station.proofs.grammar.Laws.{digit_more, digit_fails, digit_goes_on, digits_large, digits_end}
 use Rattle.station.proofs.grammar.digits_number.Goals as goal
 
-pub returns-then-not-is-ascii-digit : goal.returns-then-not-is-ascii-digit
-returns-then-not-is-ascii-digit c =
+pub returns-then-not-is_ascii_digit : goal.returns-then-not-is_ascii_digit
+returns-then-not-is_ascii_digit c =
     digit_fails c.args.word.now c.loop-byte.byte-index c.loop-byte.value c.loop-byte-test.true
-    (sym c.if-not-is-ascii-digit.ensures.value) c.loop-byte.invariant.2
+    (sym c.if-not-is_ascii_digit.ensures.value) c.loop-byte.invariant.2
 
 pub returns-then-value-gt65535 : goal.returns-then-value-gt65535
 returns-then-value-gt65535 c =
@@ -25,7 +25,7 @@ loop-byte-preserved c =
     let more = digit_more w i v c.loop-byte-test.true c.loop-byte.invariant.1 in (
       c.if-value-gt65535.false,
       cc,
-      digit_goes_on w i v c.loop-byte-test.true (sym c.if-not-is-ascii-digit.ensures.value) c.loop-byte.invariant.2,
+      digit_goes_on w i v c.loop-byte-test.true (sym c.if-not-is_ascii_digit.ensures.value) c.loop-byte.invariant.2,
     )
 
 pub returns : goal.returns

@@ -15,16 +15,16 @@ returns-then-end-tokens c =
 pub loop-passed-preserved : goal.loop-passed-preserved
 loop-passed-preserved c = (
   omega arith,
-  parts_drop is_slash c.args.tokens.now c.loop-passed.from c.section-end-end.result c.loop-passed.passed
-      c.section-end-end.ensures.value c.if-end-tokens.false c.loop-passed.invariant.1,
+  parts_drop is_slash c.args.tokens.now c.loop-passed.from c.section_end-end.result c.loop-passed.passed
+      c.section_end-end.ensures.value c.if-end-tokens.false c.loop-passed.invariant.1,
 )
 
 pub returns : goal.returns
 returns c =
     let ts = c.args.tokens.now in
     let at : c.loop-passed.passed ≡ c.args.place = omega arith in
-    let here = take (c.section-end.result - c.loop-passed.from) (drop c.loop-passed.from ts) in
+    let here = take (c.section_end.result - c.loop-passed.from) (drop c.loop-passed.from ts) in
     let same : values here ≡ part (sections ts) c.args.place =
-    ap values (part_here is_slash ts c.loop-passed.from c.section-end.result c.loop-passed.passed c.section-end.ensures.value c.loop-passed.invariant.1)
+    ap values (part_here is_slash ts c.loop-passed.from c.section_end.result c.loop-passed.passed c.section_end.ensures.value c.loop-passed.invariant.1)
     ∙ (ap (λ k. values (part (split is_slash ts) k)) at ∙ sym (part_values (split is_slash ts) c.args.place)) in
     record { value = same; long = sym (length-map here value) ∙ ap length same }

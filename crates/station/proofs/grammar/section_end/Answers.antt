@@ -9,16 +9,16 @@ loop-end-preserved c =
     omega (
       arith,
       c.loop-end.invariant,
-      before_goes_on is_slash c.args.tokens.now c.loop-end.end (Number 0) (omega arith) (sym c.if-not-is-slash.ensures),
+      before_goes_on is_slash c.args.tokens.now c.loop-end.end (Number 0) (omega arith) (sym c.if-not-is_slash.ensures),
     )
 
-pub returns-else-not-is-slash : goal.returns-else-not-is-slash
-returns-else-not-is-slash c =
+pub returns-else-not-is_slash : goal.returns-else-not-is_slash
+returns-else-not-is_slash c =
     let there : c.loop-end.end ≡ section_end c.args.tokens.now c.args.from =
     omega (
       arith,
       c.loop-end.invariant,
-      before_stops is_slash c.args.tokens.now c.loop-end.end (Number 0) (omega arith) (sym c.if-not-is-slash.ensures),
+      before_stops is_slash c.args.tokens.now c.loop-end.end (Number 0) (omega arith) (sym c.if-not-is_slash.ensures),
     ) in
     record { value = there; after = omega arith; within = λ h. omega (arith, before_within is_slash c.args.tokens.now c.args.from h) }
 

@@ -5,24 +5,24 @@ use Rattle.station.specs.Grammar.{tokens}
 use Rattle.station.proofs.grammar.tokens.Goals as goal
 
 pub loop-at-init : goal.loop-at-init
-loop-at-init c = tokens_start c.args.line.now c.word-end-at.result (vec_items c.clear.new.self) c.word-end-at.ensures.value c.clear.ensures.items
+loop-at-init c = tokens_start c.args.line.now c.word_end-at.result (vec_items c.clear.new.self) c.word_end-at.ensures.value c.clear.ensures.items
 
 pub returns-in-None : goal.returns-in-None
 returns-in-None c =
     let line = c.args.line.now in
     tokens_fail line (vec_items c.loop-at.out) (line_tokens line) c.loop-at.at c.loop-at.invariant.1
-    c.word-end-end.result c.loop-at-test.true c.loop-at.invariant.0 c.word-end-end.ensures.value c.in-None.ensures
+    c.word_end-end.result c.loop-at-test.true c.loop-at.invariant.0 c.word_end-end.ensures.value c.in-None.ensures
 
 pub loop-at-preserved : goal.loop-at-preserved
 loop-at-preserved c =
     let line = c.args.line.now in
     let items = vec_items c.loop-at.out in
-    let end = c.word-end-end.result in
+    let end = c.word_end-end.result in
     let more = tokens_more line items (line_tokens line) c.loop-at.at c.loop-at.invariant.1
-    end c.loop-at-test.true c.loop-at.invariant.0 c.word-end-end.ensures.value c.in-Some.t c.in-Some.ensures in (
+    end c.loop-at-test.true c.loop-at.invariant.0 c.word_end-end.ensures.value c.in-Some.t c.in-Some.ensures in (
       space_there line items (line_tokens line) c.loop-at.at c.loop-at.invariant.1
-          end c.loop-at-test.true c.loop-at.invariant.0 c.word-end-end.ensures.value,
-      ap (λ ts. joining ts (tokens (words_after line end))) c.in-ok-push.ensures.items ∙ more,
+          end c.loop-at-test.true c.loop-at.invariant.0 c.word_end-end.ensures.value,
+      ap (λ ts. joining ts (tokens (words_after line end))) c.in_ok-push-in-Some.ensures.items ∙ more,
     )
 
 pub returns : goal.returns

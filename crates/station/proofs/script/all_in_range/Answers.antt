@@ -5,19 +5,19 @@ use Rattle.station.specs.Script.{in_range}
 use Rattle.station.proofs.script.Laws.{each_fails, each_goes_on, each_ends}
 use Rattle.station.proofs.script.all_in_range.Goals as goal
 
-pub returns-then-not-in-range : goal.returns-then-not-in-range
-returns-then-not-in-range c =
+pub returns-then-not-in_range : goal.returns-then-not-in_range
+returns-then-not-in_range c =
     let test = in_range c.args.low c.args.high in
     let ts = c.args.section.now in
     each_fails test ts c.loop-token.token-index (list_all test (values ts)) c.loop-token.invariant c.loop-token-test.true
-    (sym (ap test c.value.ensures) ∙ sym c.if-not-in-range.ensures)
+    (sym (ap test c.value.ensures) ∙ sym c.if-not-in_range.ensures)
 
 pub loop-token-preserved : goal.loop-token-preserved
 loop-token-preserved c =
     let test = in_range c.args.low c.args.high in
     let ts = c.args.section.now in
     each_goes_on test ts c.loop-token.token-index (list_all test (values ts)) c.loop-token.invariant c.loop-token-test.true
-    (sym (ap test c.value.ensures) ∙ sym c.if-not-in-range.ensures)
+    (sym (ap test c.value.ensures) ∙ sym c.if-not-in_range.ensures)
 
 pub returns : goal.returns
 returns c =

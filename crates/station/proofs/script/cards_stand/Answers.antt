@@ -22,15 +22,15 @@ loop-left-smaller c =
     card_shorter c.args.size c.loop-left.left.now _ c.loop-left.invariant.0 c.loop-left.invariant.1
     (card_of c.in-Some.card) c.in-Some.more.now c.in-Some.ensures
 
-pub returns-then-not-all-in-range : goal.returns-then-not-all-in-range
-returns-then-not-all-in-range c =
+pub returns-then-not-all_in_range : goal.returns-then-not-all_in_range
+returns-then-not-all_in_range c =
     card_refused c.args.size c.loop-left.left.now _ c.loop-left.invariant.0 c.loop-left.invariant.1
-    (card_of c.in-Some.card) c.in-Some.more.now c.in-Some.ensures (sym c.if-not-all-in-range.ensures)
+    (card_of c.in-Some.card) c.in-Some.more.now c.in-Some.ensures (sym c.if-not-all_in_range.ensures)
 
 pub loop-left-preserved : goal.loop-left-preserved
 loop-left-preserved c =
     card_passed c.args.size c.loop-left.left.now _ c.loop-left.invariant.0 c.loop-left.invariant.1
-    (card_of c.in-Some.card) c.in-Some.more.now c.in-Some.ensures (sym c.if-not-all-in-range.ensures)
+    (card_of c.in-Some.card) c.in-Some.more.now c.in-Some.ensures (sym c.if-not-all_in_range.ensures)
 
 pub returns-in-None : goal.returns-in-None
 returns-in-None c =

@@ -3,15 +3,15 @@ use Rattle.station.proofs.script.Laws.{name_none, name_more, name_is}
 use Rattle.station.proofs.script.name_step.Goals as goal
 
 pub returns-then-at-line : goal.returns-then-at-line
-returns-then-at-line c = name_none c.args.line.now c.word-end-at.result c.word-end-at.ensures.value c.if-at-line.true
+returns-then-at-line c = name_none c.args.line.now c.word_end-at.result c.word_end-at.ensures.value c.if-at-line.true
 
 pub returns-then-end-line : goal.returns-then-end-line
 returns-then-end-line c =
-    name_more c.args.line.now c.word-end-at.result c.word-end-at.ensures.value
-    c.word-end-end.result c.if-at-line.false c.word-end-end.ensures.value c.if-end-line.true
+    name_more c.args.line.now c.word_end-at.result c.word_end-at.ensures.value
+    c.word_end-end.result c.if-at-line.false c.word_end-end.ensures.value c.if-end-line.true
 
 pub returns : goal.returns
 returns c =
-    c.field-name.ensures
-    ∙ name_is c.args.line.now c.word-end-at.result c.word-end-at.ensures.value
-    c.word-end-end.result c.if-at-line.false c.word-end-end.ensures.value c.if-end-line.false
+    c.field_name.ensures
+    ∙ name_is c.args.line.now c.word_end-at.result c.word_end-at.ensures.value
+    c.word_end-end.result c.if-at-line.false c.word_end-end.ensures.value c.if-end-line.false

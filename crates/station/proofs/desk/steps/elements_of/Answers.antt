@@ -1,4 +1,4 @@
-use Rattle.std.proofs.Common.{[], ◌∷◌, ◌++◌, ap, ◌∙◌, ap₂}
+use Rattle.std.proofs.Common.{[], ◌∷◌, ◌++◌, ◌∙◌, ap₂}
 use Rattle.station.specs.Desk.{element_of, elements}
 use Rattle.station.specs.Grammar.{value, values}
 use Rattle.station.proofs.desk.Lists.{maps_more, whole}
@@ -7,8 +7,8 @@ use Rattle.station.proofs.desk.steps.elements_of.Goals as goal
 pub loop-token-preserved : goal.loop-token-preserved
 loop-token-preserved g c =
     let m = g.F.Field in
-    c.in-ok-push.ensures.items
-    ∙ ap₂ (λ xs x. xs ++ x ∷ []) c.loop-token.invariant c.element-of.ensures
+    c.in_ok-push.ensures.items
+    ∙ ap₂ (λ xs x. xs ++ x ∷ []) c.loop-token.invariant c.element_of.ensures
     ∙ maps_more value c.args.tokens.now c.loop-token.token-index (element_of m.ops m.finite) _ c.loop-token-test.true
 
 pub returns : goal.returns

@@ -1,4 +1,4 @@
-use Rattle.std.proofs.Common.{◌≡◌, vec_items, sym, ap, ◌∙◌}
+use Rattle.std.proofs.Common.{◌≡◌, vec_items}
 use Rattle.circle.specs.Ids.{size}
 use Rattle.station.proofs.desk.Lists.{three_more}
 use Rattle.station.proofs.desk.steps.say_circle.Goals as goal
@@ -9,4 +9,4 @@ returns g c =
     let epoch : c.from.result ≡ circle.epoch = cc in
     let threshold : c.from-2.result ≡ circle.threshold = cc in
     let holders : c.size.result ≡ size circle.roll = cc in
-    three_more (vec_items c.args.said.now) epoch threshold holders c.in-ok-push.ensures.items c.in-ok-push-2.ensures.items c.in-ok-push-3.ensures.items
+    three_more (vec_items c.args.said.now) epoch threshold holders c.in_ok-push.ensures.items c.in_ok-push-2.ensures.items c.in_ok-push-3.ensures.items

@@ -12,7 +12,7 @@ loop-x-preserved g c =
     let x = c.x-item.result in
     let old = vec_items c.args.said.now in
     let said = c.number.ensures ∙ ap m.finite.number c.x-item.is in
-    c.in-ok-push.ensures.items
+    c.in_ok-push.ensures.items
     ∙ ap₂ (λ ns n. ns ++ n ∷ []) c.loop-x.invariant said
     ∙ append_assoc old (numbers m.ops m.finite (take i xs)) _
     ∙ ap (λ ns. old ++ ns) (sym (map_more m.finite.number xs i x c.loop-x-test.true))

@@ -1,4 +1,4 @@
-use Rattle.std.proofs.Common.{ap, ◌∙◌, ap₂}
+use Rattle.std.proofs.Common.{◌∙◌, ap₂}
 use Rattle.circle.specs.Ids.{inserted}
 use Rattle.station.specs.Desk.{set_of}
 use Rattle.station.specs.Grammar.{value, values}
@@ -7,7 +7,7 @@ use Rattle.station.proofs.desk.steps.set_of.Goals as goal
 
 pub loop-token-preserved : goal.loop-token-preserved
 loop-token-preserved c =
-    c.with-id-set.ensures
+    c.with_id-set.ensures
     ∙ ap₂ inserted c.loop-token.invariant c.value.ensures
     ∙ fold_more value c.args.tokens.now c.loop-token.token-index inserted 0 _ c.loop-token-test.true
 
