@@ -20,6 +20,9 @@ DECLARED = re.compile(
     r"^[ \t]*(?:pub |abbrev |unfoldable |data |record )*(?P<name>[^\s(){}\[\];.,:|]+)[ \t]*(?:\{[^}]*\}|\([^)]*\)|[ \t])*:(?:[ \t]|$)", re.M
 )
 
+# a record or a type with parameters
+HEADED = re.compile(r"^[ \t]*(?:pub |abbrev )*(?:record|data) (?P<name>[^\s(){}\[\];.,:|]+)", re.M)
+
 
 def files(top, ends):
     for folder, dirs, names in os.walk(os.path.join(top, "crates")):
@@ -42,6 +45,7 @@ def own_names(top):
             line = m.group(0) + read(path)[m.end() :].split("\n", 1)[0]
             if "-" in m.group("name") and not re.search(r": *(goal|goals|given|answers)\.", line):
                 found.add(m.group("name"))
+        found |= {m.group("name") for m in HEADED.finditer(read(path)) if "-" in m.group("name")}
     return found
 
 
