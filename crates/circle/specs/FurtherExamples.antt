@@ -1,12 +1,10 @@
 -- Worked examples of bytes and of rounds, in the definitions that the calls use. Assumes nothing.
-use Rattle.std.specs.Prelude.{◌≡◌, ℕ, ◌-◌, Bool, List, [], ◌∷◌, ◌++◌, map, length, take, replicate, Ok}
+use Rattle.std.specs.Prelude.{◌≡◌, ℕ, ◌-◌, List, [], ◌∷◌, ◌++◌, map, length, take, replicate, Ok}
 use Rattle.fields.specs.Byte.{byte_of, byte_ops}
 use Rattle.fields.specs.ByteField.{byte_points}
-use Rattle.fields.specs.ByteLaws.{byte_equality}
 use Rattle.fields.specs.Field.{Ops, Points}
-use Rattle.fields.specs.Modulus.{Chosen, chosen_13, chosen_41, chosen_257, prime_ops, prime_points, positive}
+use Rattle.fields.specs.Modulus.{Chosen, chosen_13, chosen_41, prime_ops, prime_points, positive}
 use Rattle.fields.specs.Residue.{residue}
-use Rattle.fields.specs.ResidueLaws.{equality}
 use Rattle.fields.specs.declared.byte.Byte.{Byte}
 use Rattle.fields.specs.declared.residue.Residue.{Residue}
 use Rattle.circle.specs.declared.kind.Kind.{Kind}
@@ -15,7 +13,6 @@ use Rattle.circle.specs.Begin.{begin_answer}
 use Rattle.circle.specs.Deal.{deal_answer, deal_table}
 use Rattle.circle.specs.Finish.{finish_answer, finish_table}
 use Rattle.circle.specs.Lagrange.{constant_in}
-use Rattle.circle.specs.Open.{Face}
 use Rattle.circle.specs.Round.{RoundFacts, after}
 use Rattle.circle.specs.RoundLaws.{Contribution, Taken, round_with, tally_with}
 use Rattle.circle.specs.State.{Facts}
@@ -24,7 +21,6 @@ use Rattle.circle.specs.State.{Facts}
 pub record Written (K : Type 0) : Type 0 where
   pub ops : Ops K
   pub points : Points ops
-  pub same : K → K → Bool
   pub element : ℕ → K
   pub number : K → ℕ
 
@@ -32,7 +28,6 @@ abbrev pub prime : (p : ℕ) → Chosen p → Written (Residue p)
 prime p c = record {
   ops = prime_ops p c;
   points = prime_points p c;
-  same = (equality p).same;
   element = residue p (positive p c);
   number = λ x. x.value;
 }
@@ -43,11 +38,8 @@ z13 = prime 13 chosen_13
 abbrev pub z41 : Written (Residue 41)
 z41 = prime 41 chosen_41
 
-abbrev pub z257 : Written (Residue 257)
-z257 = prime 257 chosen_257
-
 abbrev pub byte : Written Byte
-byte = record { ops = byte_ops; points = byte_points; same = byte_equality.same; element = byte_of; number = λ x. x.value }
+byte = record { ops = byte_ops; points = byte_points; element = byte_of; number = λ x. x.value }
 
 module _ {K : Type 0} (w : Written K) where
   abbrev pub elements : List ℕ → List K
@@ -66,10 +58,6 @@ module _ {K : Type 0} (w : Written K) where
       numbers (take n
       (deal_table w.ops w.points.at
       (deal_answer w.points.largest roll t 1 (length key) (length ns) 32) (elements key) (elements ns) (table_of [])))
-
-  -- a card of epoch 0 with one share
-  abbrev pub card : ℕ → ℕ → Face K
-  card id share = record { id = id; epoch = 0; shares = elements (share ∷ []) }
 
   -- what the id gives
   abbrev pub gives : ℕ → List ℕ → Contribution K
@@ -109,7 +97,7 @@ pub record FurtherExamples : Type 0 where
   -- modulo 41: those four change to the threshold 2, by 1, 2 and 3 giving 5, 2 and 1: the shares are 13, 23, 33 and 2
   pub changed_41 : RoundOf z41 (circle 15 3) (Change 2 7) (6 ∷ 11 ∷ 18 ∷ 27 ∷ [])
       (gives z41 1 (5 ∷ []) ∷ gives z41 2 (2 ∷ []) ∷ gives z41 3 (1 ∷ []) ∷ []) (13 ∷ 23 ∷ 33 ∷ 2 ∷ []) (13 ∷ 23 ∷ 33 ∷ 2 ∷ [])
-  -- modulo 13: a refresh of the shares above has the tallies 3, 9, 9 and 3, and gives the shares 9, 6, 6 and 8
+  -- modulo 13: a refresh of the shares 6, 1, 5 and 9 has the tallies 3, 9, 9 and 3, and gives the shares 9, 6, 6 and 8
   pub refreshed_13 : RoundOf z13 (circle 15 4) Refresh (6 ∷ 1 ∷ 5 ∷ 9 ∷ [])
       (gives z13 1 (1 ∷ 1 ∷ 1 ∷ []) ∷ gives z13 2 (1 ∷ 0 ∷ 4 ∷ []) ∷ gives z13 3 (2 ∷ 1 ∷ 5 ∷ []) ∷ gives z13 4 (0 ∷ 0 ∷ 0 ∷ []) ∷ [])
       (3 ∷ 9 ∷ 9 ∷ 3 ∷ []) (9 ∷ 6 ∷ 6 ∷ 8 ∷ [])

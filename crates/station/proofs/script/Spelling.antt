@@ -138,9 +138,9 @@ named_spelled rest step is =
 sections_step : (letter : ℕ) (form_of : List (List ℕ) → Option Meaning)
     → ((ss : List (List ℕ)) (step : Meaning) → form_of ss ≡ Some step → spelled step ≡ letter ∷ sections_text ss)
     → (rest : List (List ℕ)) (ts : Option (List Token)) (step : Meaning) → tokens rest ≡ ts → of_sections form_of ts ≡ Some step → spelled step ≡ letter ∷ spaced rest
-sections_step letter form_of Each-step rest None step read is = let z : ◌≡◌ {A = ℕ} 0 1 = cc in absurd (omega arith)
-sections_step letter form_of Each-step rest (Some ts) step read is =
-    Each-step (sections ts) step is
+sections_step letter form_of each_step rest None step read is = let z : ◌≡◌ {A = ℕ} 0 1 = cc in absurd (omega arith)
+sections_step letter form_of each_step rest (Some ts) step read is =
+    each_step (sections ts) step is
     ∙ ap (λ r. letter ∷ r) (sym (tokens_spelled rest ts read ∙ sections_spelled ts))
 
 one_number : (s : List ℕ) → length s ≡ 1 → s ≡ get_or s 0 0 ∷ []
