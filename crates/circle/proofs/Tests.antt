@@ -1,31 +1,11 @@
--- Tests of each element of a list. The invariant of a loop is that what is left passes as the whole does. Assumes nothing.
-use Rattle.std.proofs.Common.{◌≡◌, ℕ, zero, suc, ◌+◌, ◌-◌, ◌<◌, ◌≤◌, Bool, true, false, ◌&&◌, List, [], ◌∷◌, length, get_or, take, drop, sym, refl, ap, ◌∙◌, arith}
-use Rattle.std.specs.List.{range_with_len, list_all, AllByRecursion}
-use Rattle.std.proofs.lemmas.List.{at_drop_more, at_drop_all}
+-- Tests of each element of a list. Assumes nothing.
+use Rattle.std.proofs.Common.{◌≡◌, ℕ, zero, suc, ◌<◌, Bool, true, ◌&&◌, List, [], ◌∷◌, map, length, get_or, take, refl, ap, ◌∙◌, inl, inr, arith}
+use Rattle.std.specs.List.{list_all, zip, AllByRecursion}
 use Rattle.std.proofs.lemmas.Bool.{and_parts, and_from}
+use Rattle.circle.specs.Lists.{In}
 
 module _ {A : Type 0} (test : A → Bool) where
-  -- ## A loop over the list xs, at the turn i
-
-  module _ (xs : List A) (i : ℕ) where
-    each_step : (x : A) → i < length xs → x ≡ get_or xs i x → list_all test (drop i xs) ≡ (test x && list_all test (drop (i + 1) xs))
-    each_step x within read =
-        at_drop_more (λ r. list_all test r) xs i x within ∙ ap (λ y. test y && list_all test (drop (i + 1) xs)) (sym read)
-
-    pub each_fails : (x : A) → i < length xs → x ≡ get_or xs i x → test x ≡ false → list_all test (drop i xs) ≡ list_all test xs → false ≡ list_all test xs
-    each_fails x within read fails so_far =
-        sym (each_step x within read ∙ ap (λ b. b && list_all test (drop (i + 1) xs)) fails) ∙ so_far
-
-    pub each_goes_on : (x : A) → i < length xs → x ≡ get_or xs i x → test x ≡ true → list_all test (drop i xs) ≡ list_all test xs
-        → list_all test (drop (i + 1) xs) ≡ list_all test xs
-    each_goes_on x within read passes so_far =
-        sym (each_step x within read ∙ ap (λ b. b && list_all test (drop (i + 1) xs)) passes) ∙ so_far
-
-    pub each_ends : length xs ≤ i → list_all test (drop i xs) ≡ list_all test xs → true ≡ list_all test xs
-    each_ends past so_far = sym (at_drop_all (λ r. list_all test r) xs i past) ∙ so_far
-
-  -- ## What the whole list passes, its elements and parts do
-
+  -- what the whole list passes, its elements and parts do
   pub each_at : (xs : List A) (i : ℕ) (d : A) → list_all test xs ≡ true → i < length xs → test (get_or xs i d) ≡ true
   each_at [] i d all within = absurd (omega arith)
   each_at (y ∷ ys) zero d all within = (and_parts (test y) (list_all test ys) all).0
@@ -34,17 +14,17 @@ module _ {A : Type 0} (test : A → Bool) where
   pub each_read : (xs : List A) (i : ℕ) (x : A) → list_all test xs ≡ true → i < length xs → x ≡ get_or xs i x → test x ≡ true
   each_read xs i x all within read = ap test read ∙ each_at xs i x all within
 
+  pub each_in : (xs : List A) → list_all test xs ≡ true → (x : A) → In x xs → test x ≡ true
+  each_in [] all x m = absurd m
+  each_in (y ∷ ys) all x (inl e) = ap test e ∙ (and_parts (test y) (list_all test ys) all).0
+  each_in (y ∷ ys) all x (inr m) = each_in ys (and_parts (test y) (list_all test ys) all).1 x m
+
   pub each_take : (i : ℕ) (xs : List A) → list_all test xs ≡ true → list_all test (take i xs) ≡ true
   each_take zero xs all = refl
   each_take (suc i) [] all = refl
   each_take (suc i) (x ∷ xs) all =
       let parts = and_parts (test x) (list_all test xs) all in
       and_from (test x) (list_all test (take i xs)) parts.0 (each_take i xs parts.1)
-
-  pub each-drop : (i : ℕ) (xs : List A) → list_all test xs ≡ true → list_all test (drop i xs) ≡ true
-  each-drop zero xs all = all
-  each-drop (suc i) [] all = refl
-  each-drop (suc i) (x ∷ xs) all = each-drop i xs (and_parts (test x) (list_all test xs) all).1
 
 -- a test that holds of whatever has a property
 pub pass_all : {A : Type 0} (P : A → Type 0) (test : A → Bool) → ((x : A) → P x → test x ≡ true) → (xs : List A) → AllByRecursion P xs → list_all test xs ≡ true
@@ -58,22 +38,7 @@ each_also test other weaker (x ∷ xs) all =
     let parts = and_parts (test x) (list_all test xs) all in
     and_from (other x) (list_all other xs) (weaker x parts.0) (each_also test other weaker xs parts.1)
 
--- ## A loop that tests each number below n, at the turn p
-
-module _ (test : ℕ → Bool) (n p : ℕ) where
-  count_step : p < n → list_all test (range_with_len p (n - p)) ≡ (test p && list_all test (range_with_len (p + 1) (n - (p + 1))))
-  count_step less =
-      let e : n - p ≡ suc (n - (p + 1)) = omega arith in
-      ap (λ k. list_all test (range_with_len p k)) e
-
-  pub count_fails : p < n → test p ≡ false → list_all test (range_with_len p (n - p)) ≡ list_all test (range_with_len 0 n) → false ≡ list_all test (range_with_len 0 n)
-  count_fails less fails so_far = sym (count_step less ∙ ap (λ b. b && list_all test (range_with_len (p + 1) (n - (p + 1)))) fails) ∙ so_far
-
-  pub count_goes_on : p < n → test p ≡ true → list_all test (range_with_len p (n - p)) ≡ list_all test (range_with_len 0 n)
-      → list_all test (range_with_len (p + 1) (n - (p + 1))) ≡ list_all test (range_with_len 0 n)
-  count_goes_on less passes so_far = sym (count_step less ∙ ap (λ b. b && list_all test (range_with_len (p + 1) (n - (p + 1)))) passes) ∙ so_far
-
-  pub count_ends : n ≤ p → list_all test (range_with_len p (n - p)) ≡ list_all test (range_with_len 0 n) → true ≡ list_all test (range_with_len 0 n)
-  count_ends past so_far =
-      let e : n - p ≡ 0 = omega arith in
-      sym (ap (λ k. list_all test (range_with_len p k)) e) ∙ so_far
+-- a test of pairs from two lists that go along a third
+pub each_pair : {A B C : Type 0} (test : B × C → Bool) (f : A → B) (g : A → C) (xs : List A) → list_all test (zip (map f xs) (map g xs)) ≡ list_all (λ x. test (f x, g x)) xs
+each_pair test f g [] = refl
+each_pair test f g (x ∷ xs) = ap (λ b. test (f x, g x) && b) (each_pair test f g xs)

@@ -6,4 +6,5 @@ pub mod Hiding
 pub mod ConstantLaws
 pub mod Laws
 pub mod Loops
+pub mod Orders
 pub mod Sums

@@ -1,7 +1,7 @@
 pub mod Lists
 pub mod Ids
 pub mod Polynomial
-pub mod PolynomialParts
+pub mod LagrangeParts
 pub mod Table
 pub mod Denial
 pub mod State
@@ -16,7 +16,6 @@ pub mod Kind
 pub mod Round
 pub mod Begin
 pub mod Contribute
-pub mod ContributeParts
 pub mod Finish
 pub mod RoundLaws
 pub mod FurtherExamples

@@ -3,60 +3,44 @@
 ghost use Rattle.std.specs.Prelude.{◌≡◌};
 ghost use Rattle.circle.specs.Denial.{number};
 
-#[derive(Clone, Copy)]
+#[derive(Clone, Copy, Debug, PartialEq, Eq)]
 pub enum Denial {
     /// Places are not 1 to 32.
-    Places,
+    Places = 9,
     /// An id, alone or in a set, is 0 or above the field's largest.
-    NoSuchId,
+    NoSuchId = 10,
     /// A threshold is below 2 or above the roll's size.
-    Threshold,
+    Threshold = 11,
     /// A piece handed over has the wrong length.
-    Length,
+    Length = 12,
     /// An id is not on the roll, or not among those who contribute.
-    NotOnRoll,
+    NotOnRoll = 13,
     /// A newcomer is on the roll already.
-    AlreadyOnRoll,
+    AlreadyOnRoll = 14,
     /// Helpers are fewer than the threshold, or for an admission not exactly as many.
-    WrongHelpers,
+    WrongHelpers = 15,
     /// A dismissal would leave fewer holders than the threshold.
-    TooFewLeft,
+    TooFewLeft = 16,
     /// The epoch is 9,999, and the round is no admission.
-    LastEpoch,
+    LastEpoch = 17,
     /// The id has contributed to this round.
-    AlreadyContributed,
+    AlreadyContributed = 18,
     /// At finish a contribution is missing.
-    ContributionMissing,
+    ContributionMissing = 19,
     /// Fewer cards than the threshold are listed.
-    TooFewCards,
+    TooFewCards = 20,
     /// An id is listed twice.
-    IdTwice,
+    IdTwice = 21,
     /// A card's epoch is not the circle's.
-    OtherEpoch,
+    OtherEpoch = 22,
     /// A later card lies off a polynomial.
-    OffPolynomial,
+    OffPolynomial = 23,
 }
 
 impl Denial {
     pub fn number(self) -> u8
         ensures { result ≡ number self }
     {
-        match self {
-            Denial::Places => 9,
-            Denial::NoSuchId => 10,
-            Denial::Threshold => 11,
-            Denial::Length => 12,
-            Denial::NotOnRoll => 13,
-            Denial::AlreadyOnRoll => 14,
-            Denial::WrongHelpers => 15,
-            Denial::TooFewLeft => 16,
-            Denial::LastEpoch => 17,
-            Denial::AlreadyContributed => 18,
-            Denial::ContributionMissing => 19,
-            Denial::TooFewCards => 20,
-            Denial::IdTwice => 21,
-            Denial::OtherEpoch => 22,
-            Denial::OffPolynomial => 23,
-        }
+        self as u8
     }
 }

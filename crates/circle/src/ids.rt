@@ -1,15 +1,18 @@
-//! Sets of holder ids, each held in a `u32`: bit h - 1 for the id h, from 1 to 32.
+//! Sets of holder ids.
 
 ghost use Rattle.std.specs.Prelude.{◌≡◌, ℕ, ◌-◌, ◌%◌, ◌^◌, ◌<◌, not, [], ◌∷◌, length, MatchOption, ◌==◌, bit_and, bit_or};
 ghost use Rattle.std.specs.List.{slice_get};
 ghost use Rattle.circle.specs.Ids as ids;
 ghost use Rattle.std.specs.Iterator.{at_most};
+ghost use Rattle.std.specs.Iterator.Runs.{EveryRun, ItemsAre};
+
+use std::marker::Model;
 
 /// Whether `id` is an id at all.
 pub fn is_id(id: u8) -> bool
     ensures { result ≡ ids.is_id id }
 {
-    1 <= id && id <= 32
+    (1..=32).contains(&id)
 }
 
 // The bit of `id`, or 0 where it is no id: what it does to any set.
@@ -21,89 +24,153 @@ fn mask(id: u8) -> u32
     if is_id(id) { 1 << (id - 1) } else { 0 }
 }
 
-/// Whether the set holds `id`. No set holds what is no id.
-pub fn contains(set: u32, id: u8) -> bool
-    ensures { result ≡ ids.member set id }
-{
-    set & mask(id) != 0
+/// A set of holder ids, from 1 to 32: bit h - 1 for the id h.
+#[derive(Clone, Copy, Debug, PartialEq, Eq)]
+pub struct IdSet {
+    bits: u32,
 }
 
-/// The set with `id`; the same set where `id` is no id.
-pub fn insert(set: u32, id: u8) -> u32
-    ensures { result ≡ ids.inserted set id }
-{
-    set | mask(id)
+impl Model for IdSet {
+    ghost Value = { ℕ };
+
+    ghost view = { λ s. s.bits };
+
+    ghost invariant = { λ s. s.bits < 2 ^ 32 };
+
+    ghost inverse = { λ n. record { bits = n } };
 }
 
-/// The set without `id`.
-pub fn remove(set: u32, id: u8) -> u32
-    ensures { result ≡ ids.removed set id }
-{
-    set & !mask(id)
-}
+impl From<u32> for IdSet {
+    ghost from_gives = { λ bits set. set ≡ bits };
 
-/// How many ids the set holds.
-pub fn size(set: u32) -> u32
-    ensures { result ≡ ids.size set }
-{
-    set.count_ones()
-}
-
-// The ids of the set that are below `id`.
-fn below(set: u32, id: u8) -> u32
-    ensures { result ≡ set % 2 ^ (id - 1) }
-{
-    if id == 0 {
-        0
-    } else if id > 32 {
-        set
-    } else {
-        set & (1 << (id - 1)) - 1
+    fn from(bits: u32) -> IdSet {
+        IdSet { bits }
     }
 }
 
-/// How many ids of the set are below `id`.
-pub fn rank(set: u32, id: u8) -> u32
-    ensures { result ≡ ids.rank set id }
-{
-    size(below(set, id))
-}
+impl From<IdSet> for u32 {
+    ghost from_gives = { λ set bits. bits ≡ set };
 
-/// Whether no id of the set is above `largest`.
-pub fn all_within(set: u32, largest: u8) -> bool
-    ensures { result ≡ ids.within_largest set largest }
-{
-    largest >= 32 || set >> largest == 0
-}
-
-// The ids of the set that are not in `of`.
-fn outside(set: u32, of: u32) -> u32
-    ensures { (result == 0) ≡ ids.subset set of }
-{
-    set & !of
-}
-
-/// Whether every id of the set is in `of` too.
-pub fn is_subset(set: u32, of: u32) -> bool
-    ensures { result ≡ ids.subset set of }
-{
-    outside(set, of) == 0
-}
-
-// The lowest id of the set, if it has one. In the order those of the set without it come next.
-fn lowest(set: u32) -> Option<u8>
-    ensures { MatchOption result (ids.members set ≡ []) (λ h. ids.members set ≡ h ∷ ids.members (ids.removed set h)) }
-{
-    if set == 0 {
-        return None;
+    fn from(set: IdSet) -> u32 {
+        set.bits
     }
-    Some(set.trailing_zeros() as u8 + 1)
+}
+
+impl IdSet {
+    /// The set of no ids.
+    pub fn empty() -> IdSet
+        ensures { result ≡ 0 }
+    {
+        IdSet { bits: 0 }
+    }
+
+    /// Whether the set holds `id`. No set holds what is no id.
+    pub fn contains(self, id: u8) -> bool
+        ensures { result ≡ ids.member self id }
+    {
+        self.bits & mask(id) != 0
+    }
+
+    /// The set with `id`; the same set where `id` is no id.
+    pub fn insert(self, id: u8) -> IdSet
+        ensures { result ≡ ids.inserted self id }
+    {
+        IdSet {
+            bits: self.bits | mask(id),
+        }
+    }
+
+    /// The set without `id`.
+    pub fn remove(self, id: u8) -> IdSet
+        ensures { result ≡ ids.removed self id }
+    {
+        IdSet {
+            bits: self.bits & !mask(id),
+        }
+    }
+
+    /// How many ids the set holds.
+    pub fn size(self) -> u32
+        ensures { result ≡ ids.size self }
+    {
+        self.bits.count_ones()
+    }
+
+    // The ids of the set that are below `id`.
+    fn below(self, id: u8) -> IdSet
+        ensures { result ≡ self % 2 ^ (id - 1) }
+    {
+        if id == 0 {
+            IdSet::empty()
+        } else if id > 32 {
+            self
+        } else {
+            IdSet {
+                bits: self.bits & (1 << (id - 1)) - 1,
+            }
+        }
+    }
+
+    /// How many ids of the set are below `id`.
+    pub fn rank(self, id: u8) -> u32
+        ensures { result ≡ ids.rank self id }
+    {
+        self.below(id).size()
+    }
+
+    /// Whether no id of the set is above `largest`.
+    pub fn all_within(self, largest: u8) -> bool
+        ensures { result ≡ ids.within_largest self largest }
+    {
+        largest >= 32 || self.bits >> largest == 0
+    }
+
+    // The ids of the set that are not in `of`.
+    fn outside(self, of: IdSet) -> IdSet
+        ensures { (result == 0) ≡ ids.subset self of }
+    {
+        IdSet {
+            bits: self.bits & !of.bits,
+        }
+    }
+
+    /// Whether every id of the set is in `of` too.
+    pub fn is_subset(self, of: IdSet) -> bool
+        ensures { result ≡ ids.subset self of }
+    {
+        self.outside(of) == IdSet::empty()
+    }
+
+    // The lowest id of the set, if it has one. In the order those of the set without it come next.
+    fn lowest(self) -> Option<u8>
+        ensures { MatchOption result (ids.members self ≡ []) (λ h. ids.members self ≡ h ∷ ids.members (ids.removed self h)) }
+    {
+        if self.bits == 0 {
+            return None;
+        }
+        Some(self.bits.trailing_zeros() as u8 + 1)
+    }
+
+    /// The ids of the set, ascending.
+    pub fn members(self) -> Iter
+        ensures rest { result.rest ≡ self }
+        ensures runs { EveryRun ⟦<Iter as Iterator>⟧.next_gives (λ p. ItemsAre p (ids.members p.from.rest)) }
+    {
+        Iter { rest: self }
+    }
+
+    /// The member at place `k`, from 0, in ascending order.
+    pub fn nth_member(self, k: usize) -> Option<u8>
+        ensures { result ≡ slice_get (ids.members self) k }
+    {
+        self.members().nth(k)
+    }
 }
 
 /// A walk through the ids of a set, ascending: those still to come.
 #[derive(Drop)]
 pub struct Iter {
-    rest: u32,
+    rest: IdSet,
 }
 
 impl Iterator for Iter {
@@ -114,31 +181,10 @@ impl Iterator for Iter {
     ghost remaining = { λ s. at_most (length (ids.members s.rest)) };
 
     fn next(&mut self) -> Option<u8> {
-        let id = lowest(self.rest)?;
-        self.rest = remove(self.rest, id);
+        let id = self.rest.lowest()?;
+        self.rest = self.rest.remove(id);
         Some(id)
     }
-}
-
-/// The ids of the set, ascending.
-pub fn members(set: u32) -> Iter
-    ensures { result.rest ≡ set }
-{
-    Iter { rest: set }
-}
-
-/// The member at place `k`, from 0, in ascending order.
-pub fn nth_member(set: u32, k: usize) -> Option<u8>
-    ensures { result ≡ slice_get (ids.members set) k }
-{
-    let mut passed = 0;
-    for id in members(set) {
-        if passed == k {
-            return Some(id);
-        }
-        passed += 1;
-    }
-    None
 }
 
 // The laws of sets of ids, shown once.

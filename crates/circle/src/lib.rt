@@ -2,10 +2,12 @@
 
 #![tactic(auto)]
 
+mod basis;
 pub mod card;
 pub mod deal;
 pub mod denial;
 pub mod examples;
+mod holders;
 pub mod ids;
 pub mod kind;
 mod lagrange;

@@ -4,8 +4,10 @@ ghost use Rattle.std.specs.Prelude.{◌≡◌, ◌≤◌, true, count_ones};
 ghost use Rattle.circle.specs.Kind.{contributors, roll_after, threshold_after, epoch_after, newcomer_is_id};
 ghost use Rattle.circle.specs.Ids.{subset};
 
+use crate::ids::IdSet;
 use crate::kind::Kind;
 use crate::state::Circle;
+use std::marker::PhantomData;
 
 pub mod begin;
 pub mod contribute;
@@ -16,7 +18,7 @@ pub mod finish;
 pub struct Round<F> {
     pub(crate) circle: Circle<F>,
     pub(crate) kind: Kind,
-    pub(crate) contributed: u32,
+    pub(crate) contributed: IdSet,
     ghost among: { subset (contributors kind circle.roll) (roll_after kind circle.roll) ≡ true },
     ghost named: { newcomer_is_id kind ≡ true },
     ghost low: { 2 ≤ threshold_after kind circle.threshold },
@@ -25,6 +27,9 @@ pub struct Round<F> {
 }
 
 impl<F> Round<F> {
+    ghost use Rattle.circle.specs.Round.{round_facts, after};
+    ghost use Rattle.circle.specs.State.{facts};
+
     /// The circle that abandoning gives back.
     pub fn circle(&self) -> &Circle<F>
         ensures { result.now ≡ self.now.circle }
@@ -40,10 +45,36 @@ impl<F> Round<F> {
     }
 
     /// The set of those who have contributed.
-    pub fn contributed(&self) -> u32
+    pub fn contributed(&self) -> IdSet
         ensures { result ≡ self.now.contributed }
     {
         self.contributed
+    }
+
+    // The circle that finishing gives.
+    fn after(&self) -> Circle<F>
+        ensures { facts result ≡ after (round_facts self.now) }
+    {
+        Circle {
+            roll: self.kind.roll_after(self.circle.roll),
+            threshold: self.kind.threshold_after(self.circle.threshold),
+            epoch: self.kind.epoch_after(self.circle.epoch),
+            places: self.circle.places,
+            field: PhantomData,
+        }
+    }
+
+    // Takes the round and its receipt apart, and gives the circle back as it was before the round.
+    fn close(self, receipt: Receipt) -> Circle<F>
+        ensures { result ≡ self.circle }
+    {
+        let Receipt { sealed: _ } = receipt;
+        let Round {
+            circle,
+            kind: _,
+            contributed: _,
+        } = self;
+        circle
     }
 }
 

@@ -2,13 +2,14 @@
 
 ghost use Rattle.std.specs.Prelude.{◌≡◌, ◌≤◌, count_ones};
 
+use crate::ids::IdSet;
 use std::marker::PhantomData;
 
 /// A key dealt over the field F: who holds a share, how many shares open it, how often the shares were renewed, and how many
 /// elements the key has. The roll is the set of the holders' ids, and a place is one element of the key.
 #[derive(Drop)]
 pub struct Circle<F> {
-    pub(crate) roll: u32,
+    pub(crate) roll: IdSet,
     pub(crate) threshold: u16,
     pub(crate) epoch: u16,
     pub(crate) places: u16,
@@ -22,7 +23,7 @@ pub struct Circle<F> {
 
 impl<F> Circle<F> {
     /// The set of the holders' ids.
-    pub fn roll(&self) -> u32
+    pub fn roll(&self) -> IdSet
         ensures { result ≡ self.now.roll }
     {
         self.roll

@@ -1,18 +1,11 @@
 //! Tables, and lists of numbers, place after place.
 
-ghost use Rattle.std.specs.Prelude.{◌≡◌, ◌+◌, ◌*◌, ◌<◌, ◌≤◌, length};
-ghost use Rattle.circle.specs.Table.{spot, entry, piece, cleared};
+ghost use Rattle.std.specs.Prelude.{◌≡◌, ℕ, ◌+◌, ◌*◌, ◌<◌, ◌≤◌, List, length};
+ghost use Rattle.std.specs.Iterator.{IsFinite, Drains};
+ghost use Rattle.circle.specs.Polynomial.{sum};
+ghost use Rattle.circle.specs.Table.{entry, piece, cleared};
 
 use fields::field::Field;
-
-// The position of the id at the place p, in a table.
-pub(crate) fn spot(p: usize, id: u8) -> usize
-    requires place { p < 32 }
-    requires id { 1 ≤ id }
-    ensures { result ≡ spot p id }
-{
-    32 * p + id as usize - 1
-}
 
 // The numbers of the place p, of which each place has d.
 pub(crate) fn piece_of<F: Field>(numbers: &[F], d: usize, p: usize) -> &[F]
@@ -24,20 +17,38 @@ pub(crate) fn piece_of<F: Field>(numbers: &[F], d: usize, p: usize) -> &[F]
 
 // What a table holds for the id at the place p.
 pub(crate) fn entry_of<F: Field>(table: &[F], p: usize, id: u8) -> F
-    requires place { p < 32 }
     requires low { 1 ≤ id }
-    requires high { id ≤ 32 }
-    requires long { 32 * p + 32 ≤ length table.now }
+    requires high { 32 * p + id ≤ length table.now }
     ensures { result ≡ entry F.ops.zero table.now p id }
 {
-    table[spot(p, id)]
+    table[32 * p + id as usize - 1]
 }
 
-// Puts zeros in place of what is there.
+// Puts in place of each entry of a table what `new` makes of the place, the id, and the entry.
+// By position, since no contract says what a slice holds after a loop over its chunks.
+pub(crate) fn update<F: Field, N: Fn(usize, u8, F) -> F>(table: &mut [F], new: N)
+    requires { (p h : ℕ) (x : _) → 32 * p + h ≤ length table.old → 1 ≤ h → h ≤ 32 → N.pre new p h x }
+    ensures { (p h : ℕ) → 32 * p + h ≤ length table.old → 1 ≤ h → h ≤ 32 → N.post new p h (entry F.ops.zero table.old p h) (entry F.ops.zero table.new p h) }
+{
+    for (k, x) in table.iter_mut().enumerate() {
+        *x = new(k / 32, (k % 32) as u8 + 1, *x);
+    }
+}
+
+// The sum of the elements.
+pub(crate) fn sum<F: Field, I: Iterator<Item = F> + Drop>(elements: I) -> F
+    requires can { I.can_next elements }
+    requires ends { IsFinite (I.remaining elements) }
+    ensures { (xs : List F) × Drains I.next_gives elements xs × (result ≡ sum F.ops xs) }
+{
+    elements.fold(F::zero(), |sum, x| sum + x)
+}
+
+// Puts zeros in place of what is there. `fill` asks that a clone cannot fail, which is not known of an element.
 pub(crate) fn clear<F: Field>(xs: &mut [F])
     ensures { xs.new ≡ cleared F.ops xs.old }
 {
-    for k in 0..xs.len() {
-        xs[k] = F::zero();
+    for x in xs.iter_mut() {
+        *x = F::zero();
     }
 }

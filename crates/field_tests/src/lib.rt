@@ -30,7 +30,7 @@ mod tests {
         for n in 0..=F::largest_number() {
             let x = F::element(n).ok_or(n)?;
             match x.inverse() {
-                Some(y) => assert!(rt; x.mul(y).same(&F::one()) && n != 0),
+                Some(y) => assert!(rt; x * y == F::one() && n != 0),
                 None => assert!(rt; n == 0),
             }
         }
@@ -49,7 +49,7 @@ mod tests {
     fn multiplies(rt: &impl Abort, x: u32, y: u32, product: u32) -> Result<(), Fail> {
         let a = Byte::element(x).ok_or(x)?;
         let b = Byte::element(y).ok_or(y)?;
-        assert!(rt; a.mul(b).number() == product);
+        assert!(rt; (a * b).number() == product);
         Ok(())
     }
 

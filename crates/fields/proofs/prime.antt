@@ -1,2 +1,1 @@
 -- What the proofs of the prime fields' functions use.
-pub mod Reading

@@ -1,21 +1,66 @@
 //! The bytes as the field of FIPS 197: a sum is the exclusive or, a product is read from tables of logarithms.
 
-ghost use Rattle.std.specs.Prelude.{◌≡◌, ℕ, List, length, slice_index};
+ghost use Rattle.std.specs.Prelude.{◌≡◌, ℕ, List, length, slice_index, refl};
 ghost use Rattle.fields.specs.Byte.{byte_of, byte_ops, ProductLaws};
 ghost use Rattle.fields.specs.ByteField.{byte_points, byte_forms, byte_finite};
 ghost use Rattle.fields.specs.ByteLaws.{byte_laws, byte_equality};
+ghost use Rattle.fields.specs.Field.{sub};
 
 use crate::byte::Byte;
 use crate::byte_tables::{logarithm, power};
 use crate::field::Field;
+use std::ops::{Add, Mul, Neg, Sub};
 
-impl Byte {
-    // The byte of a value: which it is, and what its form is.
-    fn of(value: u8) -> Self
-        ensures is { result ≡ byte_of value }
-        ensures form { (form : List ℕ) → length form ≡ 1 → slice_index form 0 ≡ value → byte_forms.bytes result ≡ form }
-    {
+impl From<u8> for Byte {
+    // Which byte it is, and what its form is.
+    ghost from_gives = { λ value b. (b ≡ byte_of value) × ((form : List ℕ) → length form ≡ 1 → slice_index form 0 ≡ value → byte_forms.bytes b ≡ form) };
+
+    fn from(value: u8) -> Byte {
         Byte { value }
+    }
+}
+
+impl Add<Byte> for Byte {
+    type Output = Byte;
+
+    ghost add_gives = { λ x y r. r ≡ byte_ops.add x y };
+
+    fn add(self, other: Byte) -> Byte {
+        Self::from(self.value ^ other.value)
+    }
+}
+
+// A byte is its own opposite.
+impl Neg for Byte {
+    type Output = Byte;
+
+    ghost neg_gives = { λ x r. r ≡ byte_ops.neg x };
+
+    fn neg(self) -> Byte {
+        self
+    }
+}
+
+impl Sub<Byte> for Byte {
+    type Output = Byte;
+
+    ghost sub_gives = { λ x y r. r ≡ sub byte_ops x y };
+
+    fn sub(self, other: Byte) -> Byte {
+        self + other
+    }
+}
+
+impl Mul<Byte> for Byte {
+    type Output = Byte;
+
+    ghost mul_gives = { λ x y r. r ≡ byte_ops.mul x y };
+
+    fn mul(self, other: Byte) -> Byte {
+        match (logarithm(self.value), logarithm(other.value)) {
+            (Some(i), Some(j)) => Self::from(power(i + j)),
+            _ => Self::zero(),
+        }
     }
 }
 
@@ -32,66 +77,58 @@ impl Field for Byte {
 
     ghost finite = { byte_finite };
 
+    ghost add_free = { λ x y. tt };
+
+    ghost add_is = { λ x y r e. e };
+
+    ghost sub_free = { λ x y. tt };
+
+    ghost sub_is = { λ x y r e. e };
+
+    ghost mul_free = { λ x y. tt };
+
+    ghost mul_is = { λ x y r e. e };
+
+    ghost neg_free = { λ x. tt };
+
+    ghost neg_is = { λ x r e. e };
+
+    ghost eq_is = { λ x y. refl };
+
+    ghost LARGEST_ID = { 32 };
+
+    ghost BYTES = { 1 };
+
+    ghost FIELD_BYTE = { 4 };
+
+    ghost constants = { (refl, refl, refl) };
+
     const LARGEST_ID: u8 = 32;
 
     const BYTES: usize = 1;
 
     const FIELD_BYTE: u8 = 4;
 
-    fn max_id() -> u8 {
-        Self::LARGEST_ID
-    }
-
-    fn byte_length() -> usize {
-        Self::BYTES
-    }
-
-    fn name_byte() -> u8 {
-        Self::FIELD_BYTE
-    }
-
     fn zero() -> Self {
-        Self::of(0)
+        Self::from(0)
     }
 
     fn one() -> Self {
-        Self::of(1)
+        Self::from(1)
     }
 
-    fn add(self, other: Self) -> Self {
-        Self::of(self.value ^ other.value)
-    }
-
-    // A byte is its own opposite.
-    fn neg(self) -> Self {
-        self
-    }
-
-    fn mul(self, other: Self) -> Self {
-        match (logarithm(self.value), logarithm(other.value)) {
-            (Some(i), Some(j)) => Self::of(power(i + j)),
-            _ => Self::zero(),
-        }
-    }
-
-    fn sub(self, other: Self) -> Self {
-        self.add(other)
-    }
+    fn small() {}
 
     fn inverse(self) -> Option<Self> {
         let exponent = logarithm(self.value)?;
-        Some(Self::of(power(255 - exponent)))
-    }
-
-    fn same(&self, other: &Self) -> bool {
-        self.value == other.value
+        Some(Self::from(power(255 - exponent)))
     }
 
     fn point(id: u8) -> Option<Self> {
         if id < 1 || id > Self::LARGEST_ID {
             return None;
         }
-        Some(Self::of(id))
+        Some(Self::from(id))
     }
 
     fn write(self) -> [u8; 4] {
@@ -99,10 +136,10 @@ impl Field for Byte {
     }
 
     fn read(form: &[u8]) -> Option<Self> {
-        if form.len() != Self::BYTES {
-            return None;
+        match form {
+            [value] => Some(Self::from(*value)),
+            _ => None,
         }
-        Some(Self::of(form[0]))
     }
 
     fn largest_number() -> u32 {
@@ -114,31 +151,8 @@ impl Field for Byte {
     }
 
     fn element(number: u32) -> Option<Self> {
-        if number < 256 {
-            return Some(Self::of(number as u8));
-        }
-        None
-    }
-
-    type Row = [Byte; 32];
-
-    ghost held = { λ row. row };
-
-    fn blank_row() -> [Byte; 32] {
-        [Self::zero(); 32]
-    }
-
-    fn put(row: &mut [Byte; 32], i: usize, x: Self) {
-        if i < 32 {
-            row[i] = x;
-        }
-    }
-
-    fn get(row: &[Byte; 32], i: usize) -> Self {
-        if i < 32 {
-            return row[i];
-        }
-        Self::zero()
+        let value = u8::try_from(number).ok()?;
+        Some(Self::from(value))
     }
 }
 

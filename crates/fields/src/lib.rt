@@ -9,3 +9,4 @@ pub mod field;
 pub mod modulus;
 pub mod prime;
 pub mod residue;
+pub mod row;

@@ -1,6 +1,6 @@
 //! The integers modulo a prime, as fields: one impl for every modulus.
 
-ghost use Rattle.std.specs.Prelude.{◌≡◌, ◌%◌, ◌^◌, ◌<◌, MatchOption, ◌≢◌};
+ghost use Rattle.std.specs.Prelude.{◌≡◌, ◌%◌, ◌^◌, ◌<◌, MatchOption, ◌≢◌, refl};
 ghost use Rattle.fields.specs.Modulus.{prime_ops, prime_points, prime_forms, prime_finite};
 ghost use Rattle.fields.specs.Residue.{plus, minus, times, power};
 ghost use Rattle.fields.specs.ResidueLaws.{prime_laws, equality};
@@ -9,34 +9,15 @@ ghost use Rattle.fields.specs.declared.residue.Residue.{Residue};
 use crate::field::Field;
 use crate::modulus::Modulus;
 use crate::residue::Residue;
+use std::ops::{Add, Mul, Neg, Sub};
 
 impl<const P: u16> Residue<P> {
-    // The residue of a value below P.
+    // The residue of a value below P. No TryFrom: its callers know that the value is.
     fn of(value: u16) -> Self
         requires { value < P }
         ensures { (x : Residue P) → x.value ≡ value → result ≡ x }
     {
         Residue { value }
-    }
-
-    fn sum(self, other: Self) -> Self
-        ensures { result ≡ plus P self.entry other.entry }
-    {
-        let value = (self.value as u32 + other.value as u32) % P as u32;
-        Self::of(value as u16)
-    }
-
-    fn opposite(self) -> Self
-        ensures { result ≡ minus P self.entry }
-    {
-        Self::of((P - self.value) % P)
-    }
-
-    fn product(self, other: Self) -> Self
-        ensures { result ≡ times P self.entry other.entry }
-    {
-        let value = (self.value as u32 * other.value as u32) % P as u32;
-        Self::of(value as u16)
     }
 
     // By squares: a product or two for each digit of the exponent.
@@ -57,6 +38,48 @@ impl<const P: u16> Residue<P> {
         Residue {
             value: result as u16,
         }
+    }
+}
+
+impl<const P: u16> Add<Residue<P>> for Residue<P> {
+    type Output = Residue<P>;
+
+    ghost add_gives = { λ x y r. r ≡ plus P x y };
+
+    fn add(self, other: Residue<P>) -> Residue<P> {
+        let value = (self.value as u32 + other.value as u32) % P as u32;
+        Self::of(value as u16)
+    }
+}
+
+impl<const P: u16> Neg for Residue<P> {
+    type Output = Residue<P>;
+
+    ghost neg_gives = { λ x r. r ≡ minus P x };
+
+    fn neg(self) -> Residue<P> {
+        Self::of((P - self.value) % P)
+    }
+}
+
+impl<const P: u16> Sub<Residue<P>> for Residue<P> {
+    type Output = Residue<P>;
+
+    ghost sub_gives = { λ x y r. r ≡ plus P x (minus P y) };
+
+    fn sub(self, other: Residue<P>) -> Residue<P> {
+        self + -other
+    }
+}
+
+impl<const P: u16> Mul<Residue<P>> for Residue<P> {
+    type Output = Residue<P>;
+
+    ghost mul_gives = { λ x y r. r ≡ times P x y };
+
+    fn mul(self, other: Residue<P>) -> Residue<P> {
+        let value = (self.value as u32 * other.value as u32) % P as u32;
+        Self::of(value as u16)
     }
 }
 
@@ -86,23 +109,37 @@ where
 
     ghost finite = { prime_finite P ⟦<Residue<P> as Modulus<P>>⟧.chosen };
 
+    ghost add_free = { λ x y. tt };
+
+    ghost add_is = { λ x y r e. e };
+
+    ghost sub_free = { λ x y. tt };
+
+    ghost sub_is = { λ x y r e. e };
+
+    ghost mul_free = { λ x y. tt };
+
+    ghost mul_is = { λ x y r e. e };
+
+    ghost neg_free = { λ x. tt };
+
+    ghost neg_is = { λ x r e. e };
+
+    ghost eq_is = { λ x y. refl };
+
+    ghost LARGEST_ID = { ⟦<Residue<P> as Modulus<P>>⟧.LARGEST_ID };
+
+    ghost BYTES = { ⟦<Residue<P> as Modulus<P>>⟧.BYTES };
+
+    ghost FIELD_BYTE = { ⟦<Residue<P> as Modulus<P>>⟧.FIELD_BYTE };
+
+    ghost constants = { ⟦<Residue<P> as Modulus<P>>⟧.constants };
+
     const LARGEST_ID: u8 = <Residue<P> as Modulus<P>>::LARGEST_ID;
 
     const BYTES: usize = <Residue<P> as Modulus<P>>::BYTES;
 
     const FIELD_BYTE: u8 = <Residue<P> as Modulus<P>>::FIELD_BYTE;
-
-    fn max_id() -> u8 {
-        <Residue<P> as Modulus<P>>::max_id()
-    }
-
-    fn byte_length() -> usize {
-        <Residue<P> as Modulus<P>>::byte_length()
-    }
-
-    fn name_byte() -> u8 {
-        <Residue<P> as Modulus<P>>::name_byte()
-    }
 
     fn zero() -> Self {
         Self::of(0)
@@ -112,52 +149,35 @@ where
         Self::of(1)
     }
 
-    fn add(self, other: Self) -> Self {
-        self.sum(other)
-    }
-
-    fn neg(self) -> Self {
-        self.opposite()
-    }
-
-    fn mul(self, other: Self) -> Self {
-        self.product(other)
-    }
-
-    fn sub(self, other: Self) -> Self {
-        self.sum(other.opposite())
-    }
+    fn small() {}
 
     fn inverse(self) -> Option<Self> {
         inverse_of::<P, Self>(self)
     }
 
-    fn same(&self, other: &Self) -> bool {
-        self.value == other.value
-    }
-
     fn point(id: u8) -> Option<Self> {
-        if id < 1 || id > <Residue<P> as Modulus<P>>::max_id() {
+        if id < 1 || id > Self::max_id() {
             return None;
         }
         Some(Residue { value: id as u16 })
     }
 
     fn write(self) -> [u8; 4] {
-        if <Residue<P> as Modulus<P>>::byte_length() == 1 {
-            return [self.value as u8, 0, 0, 0];
+        let [high, low] = self.value.to_be_bytes();
+        if Self::byte_length() == 1 {
+            return [low, 0, 0, 0];
         }
-        [(self.value / 256) as u8, (self.value % 256) as u8, 0, 0]
+        [high, low, 0, 0]
     }
 
     fn read(form: &[u8]) -> Option<Self> {
-        if form.len() != <Residue<P> as Modulus<P>>::byte_length() {
+        if form.len() != Self::byte_length() {
             return None;
         }
-        let value = if form.len() == 1 {
-            form[0] as u16
-        } else {
-            form[0] as u16 * 256 + form[1] as u16
+        let value = match form {
+            [low] => u16::from(*low),
+            [high, low] => u16::from_be_bytes([*high, *low]),
+            _ => return None,
         };
         if value < P {
             Some(Residue { value })
@@ -181,26 +201,5 @@ where
             });
         }
         None
-    }
-
-    type Row = [Residue<P>; 32];
-
-    ghost held = { λ row. row };
-
-    fn blank_row() -> [Residue<P>; 32] {
-        [Self::zero(); 32]
-    }
-
-    fn put(row: &mut [Residue<P>; 32], i: usize, x: Self) {
-        if i < 32 {
-            row[i] = x;
-        }
-    }
-
-    fn get(row: &[Residue<P>; 32], i: usize) -> Self {
-        if i < 32 {
-            return row[i];
-        }
-        Self::zero()
     }
 }

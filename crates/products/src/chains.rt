@@ -11,7 +11,7 @@ use fields::field::Field;
 fn low_byte(n: u64) -> Byte
     ensures { result ≡ byte_of n }
 {
-    Byte::element((n % 256) as u32).unwrap_or(Byte::zero())
+    Byte::from((n % 256) as u8)
 }
 
 /// The last of a chain: each element is the product of the two before it and, added to that, the lowest byte of a counter.
@@ -21,7 +21,7 @@ pub fn chained(count: u64) -> Byte
     let mut before = Byte::one();
     let mut last = Byte::one();
     for i in 0..count {
-        let next = before.mul(last).add(low_byte(i));
+        let next = before * last + low_byte(i);
         before = last;
         last = next;
     }
@@ -34,7 +34,7 @@ pub fn summed(count: u64) -> Byte
 {
     let mut sum = Byte::zero();
     for i in 0..count {
-        sum = sum.add(low_byte(i).mul(low_byte(i / 256)));
+        sum = sum + low_byte(i) * low_byte(i / 256);
     }
     sum
 }

@@ -6,5 +6,5 @@ use station::run::answer_all;
 use std::io;
 
 fn main(rt: HostRuntime) -> io::Result<()> {
-    answer_all(&rt)
+    answer_all::<false>(&rt)
 }

@@ -1,26 +1,20 @@
 -- The grammar of a line: words between spaces, numbers in plain decimal, and sections between slashes.
 use Rattle.std.specs.Prelude.{ℕ, ◌+◌, ◌-◌, ◌*◌, Bool, true, false, cond, not, ◌&&◌, ◌||◌, List, [], ◌∷◌, map, length, drop, Some, None, Option, ◌==◌, nat_le, nat_lt, slice_index, slice_index_or}
 use Rattle.std.specs.Option.{option_map}
-use Rattle.std.specs.List.{prefix_len}
+use Rattle.std.specs.List.{position_or_len, slice_split}
 use Rattle.std.specs.Str.{all_ascii_digits}
 use Rattle.script.specs.declared.grammar.Token.{Token}
 use Rattle.script.specs.declared.grammar.Token.TheVariants.{Number, Slash}
 
 -- ## Parts of a list
 
--- x in front of the first part
-abbrev pub onto : {A : Type 0} → A → List (List A) → List (List A)
-onto x [] = (x ∷ []) ∷ []
-onto x (part ∷ parts) = (x ∷ part) ∷ parts
-
 -- the parts between the elements that pass the test
 abbrev pub split : {A : Type 0} → (A → Bool) → List A → List (List A)
-split test [] = [] ∷ []
-split test (x ∷ xs) = cond (test x) ([] ∷ split test xs) (onto x (split test xs))
+split test xs = slice_split test xs
 
 -- how many elements stand before the first that passes
 abbrev pub before : {A : Type 0} → (A → Bool) → List A → ℕ
-before test xs = prefix_len (λ x. not (test x)) xs
+before test xs = position_or_len test xs
 
 -- ## Words
 
@@ -31,10 +25,6 @@ is_space byte = byte == 32
 -- the words of a line: what stands between its single spaces
 abbrev pub words : List ℕ → List (List ℕ)
 words line = split is_space line
-
--- the place after the last byte of the word that begins at a place
-abbrev pub word_end : List ℕ → ℕ → ℕ
-word_end line from = from + before is_space (drop from line)
 
 -- ## Numbers
 
@@ -103,7 +93,3 @@ sections ts = map values (split is_slash ts)
 -- the part at a place, from 0
 abbrev pub part : {A : Type 0} → List (List A) → ℕ → List A
 part parts k = slice_index_or parts k []
-
--- the place after the last number of the section that begins at a place
-abbrev pub section_end : List Token → ℕ → ℕ
-section_end ts from = from + before is_slash (drop from ts)

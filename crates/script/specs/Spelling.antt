@@ -1,5 +1,5 @@
 -- The one spelling of a step, and the laws of the grammar: a line of the form is the spelling of its step.
-use Rattle.std.specs.Prelude.{◌≡◌, ℕ, ◌≤◌, List, [], ◌∷◌, ◌++◌, Some, codes, decimal}
+use Rattle.std.specs.Prelude.{◌≡◌, ℕ, ◌≤◌, Bool, List, [], ◌∷◌, ◌++◌, Some, codes, decimal}
 use Rattle.std.specs.List.{flat_map}
 use Rattle.script.specs.Grammar.{number}
 use Rattle.script.specs.Steps.{Stated, Meaning, named, dealt, refreshed, dismissed, changed, admitted, contributed, finished, abandoned, shown, opened, form}
@@ -40,11 +40,12 @@ spelled abandoned = 81 ∷ []
 spelled (shown id) = 75 ∷ number_text id
 spelled (opened cards) = 79 ∷ flat_map card_text cards
 
-pub record GrammarLaws : Type 0 where
+-- the laws of a script with the rounds or without
+pub record GrammarLaws (rounds : Bool) : Type 0 where
   -- a word is a number just where it is that number in decimal, and the number at most 65,535
   pub reads : (word : List ℕ) (n : ℕ) → number word ≡ Some n → (word ≡ decimal n) × (n ≤ 65535)
   pub writes : (word : List ℕ) (n : ℕ) → word ≡ decimal n → n ≤ 65535 → number word ≡ Some n
   -- a line of the form is the spelling of its step
-  pub spells : (size : ℕ) (line : List ℕ) (step : Meaning) → form size line ≡ Some step → spelled step ≡ line
+  pub spells : (size : ℕ) (line : List ℕ) (step : Meaning) → form rounds size line ≡ Some step → spelled step ≡ line
   -- no two lines have one step
-  pub alone : (size other : ℕ) (line line' : List ℕ) (step : Meaning) → form size line ≡ Some step → form other line' ≡ Some step → line ≡ line'
+  pub alone : (size other : ℕ) (line line' : List ℕ) (step : Meaning) → form rounds size line ≡ Some step → form rounds other line' ≡ Some step → line ≡ line'

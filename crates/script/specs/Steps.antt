@@ -1,7 +1,8 @@
 -- The steps of a script: what each line says, and which lines are of the form.
-use Rattle.std.specs.Prelude.{ℕ, Bool, true, cond, not, ◌&&◌, List, [], ◌∷◌, map, length, drop, Some, None, codes, Option, ◌==◌, nat_le, nat_lt, slice_index}
+use Rattle.std.specs.Prelude.{ℕ, Bool, true, false, cond, not, ◌&&◌, ◌||◌, List, [], ◌∷◌, map, length, drop, Some, None, codes, Option, ◌==◌, nat_le, nat_lt, slice_index}
 use Rattle.std.specs.Borrow.{Bor}
 use Rattle.std.specs.Option.{option_map}
+use Rattle.std.proofs.lemmas.Map.Entries.{option_filter}
 use Rattle.std.specs.Str.{bytes_eq}
 use Rattle.std.specs.List.{list_all}
 use Rattle.script.specs.Grammar.{words, line_tokens, sections, values, part}
@@ -175,11 +176,36 @@ abbrev pub letter_form : ℕ → ℕ → List (List ℕ) → Option (List Token)
 letter_form size letter rest ts = under letter (letters size rest ts)
 
 -- what a line says, where its elements are below size: its first word is a letter
-abbrev pub form : ℕ → List ℕ → Option Meaning
-form size line =
+abbrev pub any_form : ℕ → List ℕ → Option Meaning
+any_form size line =
     cond (length (part (words line) 0) == 1)
     (letter_form size (slice_index line 0) (drop 1 (words line)) (line_tokens line))
     None
+
+-- ## The two vocabularies
+
+-- the bytes come with the rounds
+abbrev pub is_modulus : FieldName → Bool
+is_modulus Z13 = true
+is_modulus Z41 = true
+is_modulus Z257 = true
+is_modulus Byte = false
+
+-- the steps of dealing: a modulus is named, a key dealt, a card shown, cards opened
+abbrev pub deals : Meaning → Bool
+deals (named field) = is_modulus field
+deals (dealt threshold places ids key numbers) = true
+deals (shown id) = true
+deals (opened cards) = true
+deals _ = false
+
+-- a script with the rounds knows every step, and one without them the steps of dealing
+abbrev pub known : Bool → Meaning → Bool
+known rounds step = rounds || deals step
+
+-- what a line says in a script with the rounds or without: a step that is known there
+abbrev pub form : Bool → ℕ → List ℕ → Option Meaning
+form rounds size line = option_filter (known rounds) (any_form size line)
 
 -- ## What the code's steps say
 
@@ -229,7 +255,11 @@ next_card ts =
     (Some (stated (card_section ts), drop (length (card_section ts)) (drop 1 ts)))
     None
 
+-- a card of the code, as a line states it
+abbrev pub card_of : Card → Stated
+card_of card = record { id = card.id; epoch = card.epoch; shares = values card.shares.now }
+
 -- a card of the code, and the tokens after it
 abbrev pub card_read : Option (Card × Bor (List Token)) → Option (Stated × List Token)
 card_read None = None
-card_read (Some found) = Some (record { id = found.0.id; epoch = found.0.epoch; shares = values found.0.shares.now }, found.1.now)
+card_read (Some found) = Some (card_of found.0, found.1.now)

@@ -5,6 +5,8 @@ ghost use Rattle.std.specs.Prelude.{◌≤◌};
 pub mod feed;
 
 /// The bytes of a line so far, without its newline, and whether there were more than a line may have.
+// Fixed memory with a length beside it, and no Vec: all of it is wiped after each line, and growing leaves no copy behind.
+// No Model: its value would have to show the memory, the line in it and `over`, and so hide the length alone.
 #[derive(Drop)]
 pub struct Line {
     bytes: [u8; 8192],
@@ -14,7 +16,7 @@ pub struct Line {
 }
 
 /// What a byte made of the line.
-#[derive(Clone, Copy)]
+#[derive(Clone, Copy, Debug, PartialEq, Eq)]
 pub enum Took {
     /// The line goes on.
     More,

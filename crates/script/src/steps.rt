@@ -1,18 +1,19 @@
 //! The steps of the script, and the lines that state them.
 
-ghost use Rattle.std.specs.Prelude.{◌≡◌, ℕ, true, not, length, drop, IfOk, if◌then◌else◌, Some, None, ◌==◌};
-ghost use Rattle.script.specs.Grammar.{line_tokens, sections, values, words};
-ghost use Rattle.script.specs.Steps.{admit_form, alone_form, alone_stands, card_read, card_stands, cards, change_form, contribute_form, deal_form, deal_stands, dismissed, field_name, filled, form, in_range, is_card, letter_form, lists_elements, lists_ids, lone_id, meaning, name_form, next_card, once, open_form, pair_stands, shown, stands, step_stands};
+ghost use Rattle.std.specs.Prelude.{◌≡◌, ◌==◌, ℕ, true, not, List, drop, IfOk};
+ghost use Rattle.std.specs.Bool.{then_some};
 ghost use Rattle.std.specs.List.{list_all};
+ghost use Rattle.std.specs.Option.{option_copied, option_map};
+ghost use Rattle.script.specs.Grammar.{part, sections, values, words};
+ghost use Rattle.script.specs.Steps.{admit_form, any_form, card_of, card_read, card_stands, cards, change_form, contribute_form, deal_form, deals, field_name, filled, first, form, in_range, is_card, known, letter_form, lists_elements, lists_ids, lone_id, meaning, name_form, next_card, once, open_form, pair_stands, stands, stated};
 ghost use Rattle.script.specs.Spelling.{GrammarLaws};
-ghost use Rattle.std.specs.Option.{option_map};
-ghost use Rattle.std.specs.Str.{bytes_eq};
 
-use crate::grammar::{Token, count, number_at, rest, section, tokens, word_end};
+use crate::grammar::{Token, section, section_end, tokens, word};
 use std::alloc::AllocError;
+use std::ops::Range;
 
 /// A field by its name.
-#[derive(Clone, Copy)]
+#[derive(Clone, Copy, Debug, PartialEq, Eq)]
 pub enum FieldName {
     Z13,
     Z41,
@@ -21,7 +22,7 @@ pub enum FieldName {
 }
 
 /// A step of the script, with its numbers as tokens of its line.
-#[derive(Clone, Copy)]
+#[derive(Clone, Copy, Debug, PartialEq, Eq)]
 pub enum Step<'a> {
     /// Names the field.
     Name(FieldName),
@@ -62,8 +63,30 @@ pub enum Step<'a> {
     Open(&'a [Token]),
 }
 
+impl Step<'_> {
+    // Does a script with the rounds, or without, know this step?
+    fn is_known(self, rounds: bool) -> bool
+        ensures { result ≡ known rounds (meaning self.entry) }
+    {
+        rounds || self.deals()
+    }
+
+    // Is this a step of dealing?
+    fn deals(self) -> bool
+        ensures { result ≡ deals (meaning self.entry) }
+    {
+        matches!(
+            self,
+            Step::Name(FieldName::Z13 | FieldName::Z41 | FieldName::Z257)
+                | Step::Deal { .. }
+                | Step::Show(_)
+                | Step::Open(_)
+        )
+    }
+}
+
 /// A card as a line states it.
-#[derive(Clone, Copy)]
+#[derive(Clone, Copy, Debug, PartialEq, Eq)]
 pub struct Card<'a> {
     pub id: u8,
     pub epoch: u16,
@@ -72,371 +95,277 @@ pub struct Card<'a> {
 
 // ## Words
 
-// Is this the text?
-fn is_text(word: &[u8], text: &[u8]) -> bool
-    ensures { result ≡ bytes_eq word.now text.now }
-{
-    word == text
-}
-
 // The field that a word names.
-pub(crate) fn field_name(word: &[u8]) -> Option<FieldName>
+// Not a TryFrom: its error would have nothing to say.
+fn field_name(word: &[u8]) -> Option<FieldName>
     ensures { result ≡ field_name word.now }
 {
-    if is_text(word, b"z13") {
-        return Some(FieldName::Z13);
+    match word {
+        b"z13" => Some(FieldName::Z13),
+        b"z41" => Some(FieldName::Z41),
+        b"z257" => Some(FieldName::Z257),
+        b"byte" => Some(FieldName::Byte),
+        _ => None,
     }
-    if is_text(word, b"z41") {
-        return Some(FieldName::Z41);
+}
+
+// `M word`.
+fn name_step(line: &[u8]) -> Option<FieldName>
+    ensures { result ≡ name_form (drop 1 (words line.now)) }
+{
+    match (word(line, 1), word(line, 2)) {
+        (Some(name), None) => field_name(name),
+        _ => None,
     }
-    if is_text(word, b"z257") {
-        return Some(FieldName::Z257);
-    }
-    if is_text(word, b"byte") {
-        return Some(FieldName::Byte);
-    }
-    None
 }
 
 // ## Sections
 
-// Is the number at least `low` and below `high`?
-fn in_range(low: u32, high: u32, n: u16) -> bool
-    ensures { result ≡ in_range low high n }
+// Is each number in the range?
+fn all_in_range(section: &[Token], range: Range<u32>) -> bool
+    ensures { result ≡ list_all (in_range range.start range.end) (values section.now) }
 {
-    u32::from(n) >= low && u32::from(n) < high
-}
-
-// Is each number at least `low` and below `high`?
-fn all_in_range(section: &[Token], low: u32, high: u32) -> bool
-    ensures { result ≡ list_all (in_range low high) (values section.now) }
-{
-    for token in section {
-        if !in_range(low, high, token.value()) {
-            return false;
-        }
-    }
-    true
+    section
+        .iter()
+        .all(|token| range.contains(&u32::from(token.value())))
 }
 
 // Does the number stand nowhere?
 fn lacks(section: &[Token], n: u16) -> bool
     ensures { result ≡ list_all (λ m. not (m == n)) (values section.now) }
 {
-    for token in section {
-        if token.value() == n {
-            return false;
-        }
-    }
-    true
+    section.iter().all(|token| token.value() != n)
 }
 
 // Does no number stand twice?
 fn is_once(section: &[Token]) -> bool
     ensures { result ≡ once (values section.now) }
 {
-    for (i, token) in section.iter().enumerate() {
-        if !lacks(&section[i + 1..], token.value()) {
-            return false;
-        }
-    }
-    true
-}
-
-// How many numbers are there?
-fn len(section: &[Token]) -> usize
-    ensures { result ≡ length (values section.now) }
-{
-    section.len()
+    section
+        .iter()
+        .enumerate()
+        .all(|(i, token)| lacks(&section[i + 1..], token.value()))
 }
 
 // Are there 1 to 1,024 numbers?
 fn is_filled(section: &[Token]) -> bool
     ensures { result ≡ filled (values section.now) }
 {
-    len(section) >= 1 && len(section) < 1025
+    (1..1025).contains(&section.len())
 }
 
 // Is this a set of ids, each once?
 fn lists_ids(section: &[Token]) -> bool
     ensures { result ≡ lists_ids (values section.now) }
 {
-    is_filled(section) && all_in_range(section, 1, 33) && is_once(section)
+    is_filled(section) && all_in_range(section, 1..33) && is_once(section)
 }
 
 // Are these elements of a field of this size?
 fn lists_elements(size: u32, section: &[Token]) -> bool
     ensures { result ≡ lists_elements size (values section.now) }
 {
-    is_filled(section) && all_in_range(section, 0, size)
+    is_filled(section) && all_in_range(section, 0..size)
 }
 
-// ## Steps
+// ## Cards
 
-// `M word`.
-fn name_step(line: &[u8]) -> Option<FieldName>
-    ensures { result ≡ name_form (drop 1 (words line.now)) }
+// The card that a section states.
+fn card_of(section: &[Token]) -> Option<Card<'_>>
+    ensures { option_map card_of result ≡ then_some (is_card (values section.now)) (stated (values section.now)) }
 {
-    let at = word_end(line, 0);
-    if at >= line.len() {
+    let [id, epoch, shares @ ..] = section else {
+        return None;
+    };
+    if section.len() > 1024 {
         return None;
     }
-    let end = word_end(line, at + 1);
-    if end < line.len() {
-        return None;
-    }
-    field_name(&line[at + 1..end])
-}
-
-// Are the sections those of `D t places / ids / key / numbers`?
-fn is_deal(size: u32, tokens: &[Token]) -> bool
-    ensures { result ≡ deal_stands size (sections tokens.now) }
-{
-    count(tokens) == 4
-        && section(tokens, 0).len() == 2
-        && lists_ids(section(tokens, 1))
-        && lists_elements(size, section(tokens, 2))
-        && lists_elements(size, section(tokens, 3))
-}
-
-fn deal_step(size: u32, tokens: &[Token]) -> Option<Step<'_>>
-    ensures says { option_map meaning result ≡ deal_form size (sections tokens.now) }
-    ensures stands { stands size result ≡ true }
-{
-    if !is_deal(size, tokens) {
-        return None;
-    }
-    let head = section(tokens, 0);
-    let threshold = number_at(head, 0);
-    let places = number_at(head, 1);
-    Some(Step::Deal {
-        threshold,
-        places,
-        ids: section(tokens, 1),
-        key: section(tokens, 2),
-        numbers: section(tokens, 3),
+    Some(Card {
+        id: u8::try_from(id.value()).ok()?,
+        epoch: epoch.value(),
+        shares,
     })
-}
-
-// Is there nothing after the letter?
-fn is_alone(tokens: &[Token]) -> bool
-    ensures { result ≡ alone_stands (sections tokens.now) }
-{
-    count(tokens) == 1 && section(tokens, 0).len() == 0
-}
-
-// `R`, `F` and `Q`.
-fn alone_step<'a>(step: Step<'a>, tokens: &[Token]) -> Option<Step<'a>>
-    requires { (size : ℕ) → step_stands size step ≡ true }
-    ensures says { option_map meaning result ≡ alone_form (meaning step.entry) (sections tokens.now) }
-    ensures stands { (size : ℕ) → stands size result ≡ true }
-{
-    if is_alone(tokens) { Some(step) } else { None }
-}
-
-// The id of `X id` and `K id`.
-fn lone_id(tokens: &[Token]) -> Option<u8>
-    ensures { result ≡ lone_id (sections tokens.now) }
-{
-    let head = section(tokens, 0);
-    if count(tokens) != 1 || head.len() != 1 {
-        return None;
-    }
-    let id = number_at(head, 0);
-    if id > 255 {
-        return None;
-    }
-    Some(id as u8)
-}
-
-// `X id`.
-fn dismiss_step(tokens: &[Token]) -> Option<Step<'_>>
-    ensures says { option_map meaning result ≡ option_map dismissed (lone_id (sections tokens.now)) }
-    ensures stands { (size : ℕ) → stands size result ≡ true }
-{
-    let id = lone_id(tokens)?;
-    Some(Step::Dismiss(id))
-}
-
-// `K id`.
-fn show_step(tokens: &[Token]) -> Option<Step<'_>>
-    ensures says { option_map meaning result ≡ option_map shown (lone_id (sections tokens.now)) }
-    ensures stands { (size : ℕ) → stands size result ≡ true }
-{
-    let id = lone_id(tokens)?;
-    Some(Step::Show(id))
-}
-
-// Are there one number and one section?
-fn is_pair(tokens: &[Token]) -> bool
-    ensures { result ≡ pair_stands (sections tokens.now) }
-{
-    count(tokens) == 2 && section(tokens, 0).len() == 1
-}
-
-// `T t / helpers`.
-fn change_step(tokens: &[Token]) -> Option<Step<'_>>
-    ensures says { option_map meaning result ≡ change_form (sections tokens.now) }
-    ensures stands { (size : ℕ) → stands size result ≡ true }
-{
-    let helpers = section(tokens, 1);
-    if !is_pair(tokens) || !lists_ids(helpers) {
-        return None;
-    }
-    let threshold = number_at(section(tokens, 0), 0);
-    Some(Step::Change { threshold, helpers })
-}
-
-// `A id / helpers`.
-fn admit_step(tokens: &[Token]) -> Option<Step<'_>>
-    ensures says { option_map meaning result ≡ admit_form (sections tokens.now) }
-    ensures stands { (size : ℕ) → stands size result ≡ true }
-{
-    let helpers = section(tokens, 1);
-    let id = number_at(section(tokens, 0), 0);
-    if !is_pair(tokens) || id > 255 || !lists_ids(helpers) {
-        return None;
-    }
-    Some(Step::Admit {
-        id: id as u8,
-        helpers,
-    })
-}
-
-// `C id / numbers`.
-fn contribute_step(size: u32, tokens: &[Token]) -> Option<Step<'_>>
-    ensures says { option_map meaning result ≡ contribute_form size (sections tokens.now) }
-    ensures stands { stands size result ≡ true }
-{
-    let numbers = section(tokens, 1);
-    let id = number_at(section(tokens, 0), 0);
-    if !is_pair(tokens) || id > 255 || !lists_elements(size, numbers) {
-        return None;
-    }
-    Some(Step::Contribute {
-        id: id as u8,
-        numbers,
-    })
-}
-
-// Are these the numbers of a card: an id, an epoch and shares?
-fn is_card(section: &[Token]) -> bool
-    ensures { result ≡ is_card (values section.now) }
-{
-    len(section) >= 2 && len(section) < 1025 && number_at(section, 0) <= 255
 }
 
 /// The card after the first slash, and the tokens after it.
 pub fn next_card(tokens: &[Token]) -> Option<(Card<'_>, &[Token])>
     ensures { card_read result ≡ next_card tokens.now }
 {
-    if tokens.len() == 0 {
-        return None;
-    }
-    let after = rest(tokens, 1);
-    let card = section(after, 0);
-    if !is_card(card) {
-        return None;
-    }
-    let id = number_at(card, 0) as u8;
-    let epoch = number_at(card, 1);
-    Some((
-        Card {
-            id,
-            epoch,
-            shares: rest(card, 2),
-        },
-        rest(after, card.len()),
-    ))
+    let (_, after) = tokens.split_first()?;
+    let end = section_end(after);
+    let card = card_of(&after[..end])?;
+    Some((card, &after[end..]))
+}
+
+// Is this a card with elements of a field of this size?
+fn is_card(size: u32, section: &[Token]) -> bool
+    ensures { result ≡ card_stands size (values section.now) }
+{
+    card_of(section).is_some_and(|card| all_in_range(card.shares, 0..size))
 }
 
 // Is each section after the first a card with elements of a field of this size?
 fn cards_stand(size: u32, tokens: &[Token]) -> bool
     ensures { result ≡ list_all (card_stands size) (cards tokens.now) }
 {
-    let mut left = rest(tokens, section(tokens, 0).len());
-    while left.len() > 0 {
-        match next_card(left) {
-            Some((card, more)) => {
-                if !all_in_range(card.shares, 0, size) {
-                    return false;
-                }
-                left = more;
-            }
-            None => return false,
-        }
-    }
-    true
+    tokens
+        .split(|token| token.is_slash())
+        .skip(1)
+        .all(|section| is_card(size, section))
 }
 
-// `O / card / card ..`.
-fn open_step(size: u32, tokens: &[Token]) -> Option<Step<'_>>
-    ensures says { option_map meaning result ≡ open_form size (sections tokens.now) }
-    ensures stands { stands size result ≡ true }
-{
-    if section(tokens, 0).len() != 0 || !cards_stand(size, tokens) {
-        return None;
-    }
-    Some(Step::Open(tokens))
-}
+// ## Steps
 
-// ## Lines
+// `size` and `tokens` stay two parameters: a struct of them would only lengthen the names in the contracts.
 
-// The step that a letter names, of a line and its tokens, if all its words but the first are such.
-fn step_of<'a>(
-    size: u32,
-    letter: u8,
-    line: &[u8],
-    all: bool,
-    tokens: &'a [Token],
-) -> Option<Step<'a>>
-    ensures says { option_map meaning result ≡ letter_form size letter (drop 1 (words line.now)) (if all then Some tokens.now else None) }
-    ensures stands { stands size result ≡ true }
+// The id of `X id` and `K id`.
+fn lone_id(tokens: &[Token]) -> Option<u8>
+    ensures { result ≡ lone_id (sections tokens.now) }
 {
-    match char::from(letter) {
-        'M' => {
-            let field = name_step(line)?;
-            Some(Step::Name(field))
-        }
-        'D' if all => deal_step(size, tokens),
-        'R' if all => alone_step(Step::Refresh, tokens),
-        'X' if all => dismiss_step(tokens),
-        'T' if all => change_step(tokens),
-        'A' if all => admit_step(tokens),
-        'C' if all => contribute_step(size, tokens),
-        'F' if all => alone_step(Step::Finish, tokens),
-        'Q' if all => alone_step(Step::Abandon, tokens),
-        'K' if all => show_step(tokens),
-        'O' if all => open_step(size, tokens),
+    match (section(tokens, 0), section(tokens, 1)) {
+        (Some([id]), None) => u8::try_from(id.value()).ok(),
         _ => None,
     }
 }
 
-/// The step that a line without its newline states, with elements below `size`; none if it is not of the form.
-/// The tokens of the line are kept in `room`, in place of what it held.
-pub fn parse<'a>(
+// One number, and one section.
+fn pair(tokens: &[Token]) -> Option<(u16, &[Token])>
+    ensures { option_map {U = ℕ × List ℕ} (λ p. (p.0, values p.1.now)) result ≡ then_some (pair_stands (sections tokens.now)) (first (sections tokens.now), part (sections tokens.now) 1) }
+{
+    match (section(tokens, 0), section(tokens, 1), section(tokens, 2)) {
+        (Some([n]), Some(section), None) => Some((n.value(), section)),
+        _ => None,
+    }
+}
+
+// `T t / helpers`.
+fn change_step(tokens: &[Token]) -> Option<Step<'_>>
+    ensures { option_map meaning result ≡ change_form (sections tokens.now) }
+{
+    let (threshold, helpers) = pair(tokens)?;
+    lists_ids(helpers).then_some(Step::Change { threshold, helpers })
+}
+
+// `A id / helpers`.
+fn admit_step(tokens: &[Token]) -> Option<Step<'_>>
+    ensures { option_map meaning result ≡ admit_form (sections tokens.now) }
+{
+    let (id, helpers) = pair(tokens)?;
+    let id = u8::try_from(id).ok()?;
+    lists_ids(helpers).then_some(Step::Admit { id, helpers })
+}
+
+// `C id / numbers`.
+fn contribute_step(size: u32, tokens: &[Token]) -> Option<Step<'_>>
+    ensures { option_map meaning result ≡ contribute_form size (sections tokens.now) }
+{
+    let (id, numbers) = pair(tokens)?;
+    let id = u8::try_from(id).ok()?;
+    lists_elements(size, numbers).then_some(Step::Contribute { id, numbers })
+}
+
+// `D t places / ids / key / numbers`.
+fn deal_step(size: u32, tokens: &[Token]) -> Option<Step<'_>>
+    ensures { option_map meaning result ≡ deal_form size (sections tokens.now) }
+{
+    let [threshold, places] = section(tokens, 0)? else {
+        return None;
+    };
+    let ids = section(tokens, 1)?;
+    let key = section(tokens, 2)?;
+    let numbers = section(tokens, 3)?;
+    let stands = section(tokens, 4).is_none()
+        && lists_ids(ids)
+        && lists_elements(size, key)
+        && lists_elements(size, numbers);
+    stands.then_some(Step::Deal {
+        threshold: threshold.value(),
+        places: places.value(),
+        ids,
+        key,
+        numbers,
+    })
+}
+
+// `O / card / card ..`.
+// That its cards stand is a clause: a type for its tokens would be no plainer, since the station walks them by `next_card`.
+#[tactic(auto, using(crate::proofs::grammar::Laws::first_section_long))]
+fn open_step(size: u32, tokens: &[Token]) -> Option<Step<'_>>
+    ensures says { option_map meaning result ≡ open_form size (sections tokens.now) }
+    ensures stands { stands size result ≡ true }
+{
+    let opens = section_end(tokens) == 0 && cards_stand(size, tokens);
+    opens.then_some(Step::Open(tokens))
+}
+
+// ## Lines
+
+// The step that a letter names, of a line and of its tokens, if all its words but the first are such.
+#[tactic(auto, using(crate::proofs::steps::Laws::alone_is))]
+fn step_of<'a>(size: u32, letter: u8, line: &[u8], tokens: Option<&'a [Token]>) -> Option<Step<'a>>
+    ensures says { option_map meaning result ≡ letter_form size letter (drop 1 (words line.now)) (option_copied tokens.entry) }
+    ensures stands { stands size result ≡ true }
+{
+    if letter == b'M' {
+        return Some(Step::Name(name_step(line)?));
+    }
+    let tokens = tokens?;
+    match letter {
+        b'D' => deal_step(size, tokens),
+        b'R' => tokens.is_empty().then_some(Step::Refresh),
+        b'X' => Some(Step::Dismiss(lone_id(tokens)?)),
+        b'T' => change_step(tokens),
+        b'A' => admit_step(tokens),
+        b'C' => contribute_step(size, tokens),
+        b'F' => tokens.is_empty().then_some(Step::Finish),
+        b'Q' => tokens.is_empty().then_some(Step::Abandon),
+        b'K' => Some(Step::Show(lone_id(tokens)?)),
+        b'O' => open_step(size, tokens),
+        _ => None,
+    }
+}
+
+// The step that a line without its newline states, of all steps.
+fn any_step<'a>(
     size: u32,
     line: &[u8],
     room: &'a mut Vec<Token>,
 ) -> Result<Option<Step<'a>>, AllocError>
-    ensures says { IfOk result (λ step. option_map meaning step ≡ form size line.now) }
+    ensures says { IfOk result (λ step. option_map meaning step ≡ any_form size line.now) }
     ensures stands { IfOk result (λ step. stands size step ≡ true) }
 {
-    if word_end(line, 0) != 1 {
+    let Some([letter]) = word(line, 0) else {
         return Ok(None);
+    };
+    let tokens = tokens(line, room)?;
+    Ok(step_of(size, *letter, line, tokens))
+}
+
+/// The step that a line without its newline states, with elements below `size`; none if it is not of the form.
+/// A script without the rounds has only the moduli, and the steps `M`, `D`, `K` and `O`.
+/// The tokens of the line are kept in `room`, in place of what it held.
+pub fn parse<'a, const ROUNDS: bool>(
+    size: u32,
+    line: &[u8],
+    room: &'a mut Vec<Token>,
+) -> Result<Option<Step<'a>>, AllocError>
+    ensures says { IfOk result (λ step. option_map meaning step ≡ form ROUNDS size line.now) }
+    ensures stands { IfOk result (λ step. stands size step ≡ true) }
+{
+    match any_step(size, line, room)? {
+        Some(step) if step.is_known(ROUNDS) => Ok(Some(step)),
+        _ => Ok(None),
     }
-    let all = tokens(line, room)?;
-    Ok(step_of(size, line[0], line, all, room.as_slice()))
 }
 
 // The laws of the grammar, shown once.
-fn laws_shown()
-    ensures { GrammarLaws }
+fn laws_shown<const ROUNDS: bool>()
+    ensures { GrammarLaws ROUNDS }
 {}
 
 /// The laws of the grammar: a line of the form is the one spelling of its step.
-pub fn grammar_laws()
-    ensures { GrammarLaws }
+pub fn grammar_laws<const ROUNDS: bool>()
+    ensures { GrammarLaws ROUNDS }
 {
-    laws_shown();
+    laws_shown::<ROUNDS>();
 }

@@ -1,10 +1,10 @@
-//! Reads a script from standard input, and answers each of its lines.
+//! Reads a script from standard input, and answers each of its lines. A crate of its own: the gate runs a program on one input.
 
 #![tactic(auto)]
 
-use station_rounds::run::answer_all;
+use station::run::answer_all;
 use std::io;
 
 fn main(rt: HostRuntime) -> io::Result<()> {
-    answer_all(&rt)
+    answer_all::<true>(&rt)
 }

@@ -1,3 +1,4 @@
 -- What the proofs of the desk's steps use.
-pub mod Lists
+pub mod Back
+pub mod Replies
 pub mod Walk

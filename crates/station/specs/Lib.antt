@@ -1,7 +1,5 @@
-pub mod Grammar
-pub mod Line
-pub mod Script
-pub mod Spelling
 pub mod Desk
 pub mod DeskParts
+pub mod Fields
+pub mod Refusal
 pub mod Station

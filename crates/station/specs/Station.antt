@@ -1,106 +1,117 @@
 -- The states of a script, and what a line makes of them. Assumes nothing.
-use Rattle.std.specs.Prelude.{ℕ, Bool, List, [], Some, None, Option}
+use Rattle.std.specs.Prelude.{◌≡◌, ℕ, Bool, true, false, List, [], Ok, Err, Result}
+use Rattle.std.specs.Option.{option_map_or}
 use Rattle.fields.specs.Field.{Ops, Points, Finite}
-use Rattle.fields.specs.Modulus.{Chosen, chosen_13, chosen_41, chosen_257, prime_ops, prime_points, prime_finite}
-use Rattle.fields.specs.ResidueLaws.{equality}
-use Rattle.fields.specs.declared.residue.Residue.{Residue}
-use Rattle.station.specs.Desk.{Said, ok, no, not_allowed, Kept, kept, nothing, deal_said, deal_kept, show_said, open_said}
-use Rattle.station.specs.Script.{Meaning, named, dealt, shown, opened, form}
-use Rattle.station.specs.declared.script.FieldName.{FieldName}
-use Rattle.station.specs.declared.script.FieldName.TheVariants.{Z13, Z41, Z257}
+use Rattle.station.specs.Fields.{field}
+use Rattle.station.specs.Desk.{Said, Holding, running, Kept, kept, nothing, kept_after, reply, set_of, deal_move, begin_move, contribute_move, finish_move, abandon_move, show_said, open_said}
+use Rattle.circle.specs.declared.kind.Kind.TheVariants.{Refresh, Dismissal, Change, Admission}
+use Rattle.script.specs.Steps.{Meaning, named, dealt, refreshed, dismissed, changed, admitted, contributed, finished, abandoned, shown, opened, is_modulus, form}
+use Rattle.script.specs.declared.steps.FieldName.{FieldName}
+use Rattle.script.specs.declared.steps.FieldName.TheVariants.{Z13, Z41, Z257, Byte}
+use Rattle.station.specs.declared.refusal.Refusal.{Refusal}
+use Rattle.station.specs.declared.refusal.Refusal.TheVariants.{NotOfForm, NotAllowed}
+use Rattle.station.specs.declared.station.Desks.{Desks}
+use Rattle.station.specs.declared.station.Desks.TheVariants.{Unnamed, At13, At41, At257, AtByte}
 use Rattle.station.specs.declared.station.Station.{Station}
-use Rattle.station.specs.declared.station.Station.TheVariants.{Unnamed, At13, At41, At257}
 
 -- ## A step at the desk of a field that is named
 
-module _ {K : Type 0} (F : Ops K) (fin : Finite K) (m : Points F) (same : K → K → Bool) where
-  abbrev pub desk_said : Kept K → Meaning → Said
-  desk_said k (named field) = not_allowed
-  desk_said k (dealt threshold places ids key numbers) = deal_said F fin m k.circle threshold places ids key numbers
-  desk_said k (shown id) = show_said F fin m k.circle k.table id
-  desk_said k (opened cards) = open_said F fin m same k.circle cards
+module _ {K : Type 0} (F : Ops K) (fin : Finite K) (m : Points F) where
+  -- what a step makes of what is kept; showing and opening change nothing
+  abbrev pub move : Kept K → Meaning → Result (Kept K) Refusal
+  move k (named field) = Err NotAllowed
+  move k (dealt threshold places ids key numbers) = deal_move F fin m k.holding threshold places ids key numbers
+  move k refreshed = begin_move F fin m k.holding Refresh k
+  move k (dismissed id) = begin_move F fin m k.holding (Dismissal id) k
+  move k (changed threshold helpers) = begin_move F fin m k.holding (Change threshold (set_of helpers)) k
+  move k (admitted id helpers) = begin_move F fin m k.holding (Admission id (set_of helpers)) k
+  move k (contributed id numbers) = contribute_move F fin m k.holding id numbers k
+  move k finished = finish_move F fin m k.holding k
+  move k abandoned = abandon_move F fin m k.holding k
+  move k (shown id) = Ok k
+  move k (opened cards) = Ok k
 
-  -- only a dealing changes what is kept
   abbrev pub desk_kept : Kept K → Meaning → Kept K
-  desk_kept k (named field) = k
-  desk_kept k (dealt threshold places ids key numbers) = deal_kept F fin m k k.circle threshold places ids key numbers
-  desk_kept k (shown id) = k
-  desk_kept k (opened cards) = k
+  desk_kept k step = kept_after (move k step) k
 
-module _ {p : ℕ} (c : Chosen p) where
-  abbrev pub prime_said : Kept (Residue p) → Meaning → Said
-  prime_said = desk_said (prime_ops p c) (prime_finite p c) (prime_points p c) (equality p).same
-
-  abbrev pub prime_kept : Kept (Residue p) → Meaning → Kept (Residue p)
-  prime_kept = desk_kept (prime_ops p c) (prime_finite p c) (prime_points p c) (equality p).same
+  -- what a step is answered: the cards' numbers, the key, or else how the circle stands after it
+  abbrev pub desk_said : (K → K → Bool) → Kept K → Meaning → Said
+  desk_said same k (shown id) = show_said F fin m k.holding k.table id
+  desk_said same k (opened cards) = open_said F fin m same k.holding cards
+  desk_said same k step = reply (move k step)
 
 -- ## States
 
 -- no field is named yet, or one is, and its desk keeps what was dealt
 pub data State : Type 0 where
   unnamed : State
-  at_13 : Kept (Residue 13) → State
-  at_41 : Kept (Residue 41) → State
-  at_257 : Kept (Residue 257) → State
+  at : (name : FieldName) → Kept (field name).K → State
 
-abbrev pub state : Station → State
-state Unnamed = unnamed
-state (At13 desk) = at_13 (kept desk)
-state (At41 desk) = at_41 (kept desk)
-state (At257 desk) = at_257 (kept desk)
+abbrev pub desks_state : Desks → State
+desks_state Unnamed = unnamed
+desks_state (At13 desk) = at Z13 (kept desk)
+desks_state (At41 desk) = at Z41 (kept desk)
+desks_state (At257 desk) = at Z257 (kept desk)
+desks_state (AtByte desk) = at Byte (kept desk)
+
+abbrev pub state : {rounds : ℕ} → Station rounds → State
+state s = desks_state s.desks
 
 -- elements are below this
 abbrev pub element_size : State → ℕ
 element_size unnamed = 65536
-element_size (at_13 k) = 13
-element_size (at_41 k) = 41
-element_size (at_257 k) = 257
+element_size (at name k) = (field name).finite.size
 
 -- the state after a field is named
 abbrev pub fresh : FieldName → State
-fresh Z13 = at_13 nothing
-fresh Z41 = at_41 nothing
-fresh Z257 = at_257 nothing
+fresh Z13 = at Z13 nothing
+fresh Z41 = at Z41 nothing
+fresh Z257 = at Z257 nothing
+fresh Byte = at Byte nothing
 
 -- before a field is named, only naming one is allowed
 abbrev pub first_said : Meaning → Said
-first_said (named field) = ok []
-first_said (dealt threshold places ids key numbers) = not_allowed
-first_said (shown id) = not_allowed
-first_said (opened cards) = not_allowed
+first_said (named field) = Ok []
+first_said _ = Err NotAllowed
 
 abbrev pub first_state : Meaning → State
 first_state (named field) = fresh field
-first_state (dealt threshold places ids key numbers) = unnamed
-first_state (shown id) = unnamed
-first_state (opened cards) = unnamed
+first_state _ = unnamed
 
 abbrev pub step_said : State → Meaning → Said
 step_said unnamed step = first_said step
-step_said (at_13 k) step = prime_said chosen_13 k step
-step_said (at_41 k) step = prime_said chosen_41 k step
-step_said (at_257 k) step = prime_said chosen_257 k step
+step_said (at name k) step =
+    let f = field name in
+    desk_said f.ops f.finite f.points f.equal.same k step
 
 abbrev pub step_state : State → Meaning → State
 step_state unnamed step = first_state step
-step_state (at_13 k) step = at_13 (prime_kept chosen_13 k step)
-step_state (at_41 k) step = at_41 (prime_kept chosen_41 k step)
-step_state (at_257 k) step = at_257 (prime_kept chosen_257 k step)
+step_state (at name k) step =
+    let f = field name in
+    at name (desk_kept f.ops f.finite f.points k step)
 
 -- ## Lines
 
--- a line that is not of the form is answered `no 1`, and changes nothing
-abbrev pub read_said : State → Option Meaning → Said
-read_said s None = no 1
-read_said s (Some step) = step_said s step
+-- what a line, without its newline, is answered in a script with the rounds or without, and the state after it: a line
+-- that is not of the form changes nothing
+abbrev pub line_said : Bool → State → List ℕ → Said
+line_said rounds s line = option_map_or (step_said s) (form rounds (element_size s) line) (Err NotOfForm)
 
-abbrev pub read_state : State → Option Meaning → State
-read_state s None = s
-read_state s (Some step) = step_state s step
+abbrev pub line_state : Bool → State → List ℕ → State
+line_state rounds s line = option_map_or (step_state s) (form rounds (element_size s) line) s
 
--- what a line, without its newline, is answered, and the state after it
-abbrev pub line_said : State → List ℕ → Said
-line_said s line = read_said s (form (element_size s) line)
+-- ## A script without the rounds
 
-abbrev pub line_state : State → List ℕ → State
-line_state s line = read_state s (form (element_size s) line)
+-- no round is open
+abbrev pub IsIdle : Holding → Type 0
+IsIdle (running r) = ⊥
+IsIdle _ = Unit {0}
+
+-- no field is named, or one by its modulus, and no round is open
+abbrev pub IsDealing : State → Type 0
+IsDealing unnamed = Unit {0}
+IsDealing (at name k) = (is_modulus name ≡ true) × IsIdle k.holding
+
+-- without the rounds, a line of such a state leads to such a state
+abbrev pub StaysDealing : Type 0
+StaysDealing = (s : State) (line : List ℕ) → IsDealing s → IsDealing (line_state false s line)

@@ -3,10 +3,8 @@ use Rattle.std.proofs.Common.{◌≡◌, ℕ, zero, suc, ◌+◌, ◌-◌, ◌/�
 use lib.Count.{ones, ones_step, ones-le}
 use Rattle.std.specs.List.{slice_get, range_with_len, list_all}
 use Rattle.std.specs.Iterator.{Yields}
-use Rattle.std.proofs.lemmas.Iterator.{YieldsList}
 use Rattle.std.proofs.lemmas.Nat.{pow_pos, mod_below, shr-shr, shr_le}
 use Rattle.std.proofs.lemmas.List.Filters.{length-filter_both}
-use Rattle.std.proofs.lemmas.Iterator.Consumers.{YieldsList-from_shown}
 use Rattle.std.proofs.lemmas.Bool.{cases_lt, cases_Bool, both_ways, cond-true, cond-false, cond_both, and_left, and_right, and_parts, or_left, not-true, eq-eqb, eqb-true}
 use Rattle.std.proofs.lemmas.Bool.Decides.{nat_tests, eqb_tells, Decides-like}
 use Rattle.std.proofs.ByRecursion.{Decides-by_and}
@@ -300,10 +298,6 @@ module _ {S : Type 0} (rest : S → ℕ) where
   pub visited : (set : ℕ) (s t : S) (xs : List ℕ) → rest s ≡ set → Yields walk s xs t → members set ≡ xs ++ members (rest t)
   visited set s t [] e y = ap members (sym e) ∙ ap (λ u. members (rest u)) y
   visited set s t (x ∷ xs) e y = ap members (sym e) ∙ y.1 ∙ ap (λ ys. x ∷ ys) (visited (rest y.0) y.0 t xs refl y.2)
-
-  -- for chains of iterators
-  pub members_road : (s : S) → YieldsList walk (λ h. h) s (members (rest s))
-  members_road s = YieldsList-from_shown walk (λ h. h) (λ t. members (rest t)) (λ t u e. ap length e) (λ t x u e. e) s
 
 -- ## Subsets, and sets of few ids
 

@@ -1,13 +1,11 @@
 -- Lagrange's constants, with one inverse for each; and the sum that they weigh. Assumes nothing.
-use Rattle.std.proofs.Common.{◌≡◌, ℕ, ◌+◌, ◌<◌, ◌≢◌, List, [], ◌∷◌, ◌++◌, length, get_or, take, drop, sym, refl, ap, ◌∙◌, subst, ap₂, append_assoc, arith, take-append-drop}
+use Rattle.std.proofs.Common.{◌≡◌, ℕ, ◌+◌, ◌≢◌, List, [], ◌∷◌, ◌++◌, length, get_or, take, drop, sym, refl, ap, ◌∙◌, ap₂, append_assoc}
 use Rattle.std.specs.List.{AllByRecursion}
-use Rattle.std.proofs.lemmas.List.{drop_more, take_at, drop_at, get_or_at, length_push}
+use Rattle.std.proofs.lemmas.List.{take_at, drop_at, get_or_at, length_push}
 use Rattle.fields.specs.Field.{Ops, FieldLaws, sub}
 use Rattle.fields.proofs.Ring.{ring, forms}
-use Rattle.circle.specs.Lists.{Distinct, others}
 use Rattle.circle.specs.Polynomial.{points, values, constant, constant_of, weighted, interpolated}
-use Rattle.circle.specs.PolynomialParts.{gaps, gaps_beside}
-use Rattle.circle.proofs.Lists.{distinct_middle}
+use Rattle.circle.specs.LagrangeParts.{gaps}
 use Rattle.circle.proofs.polynomial.Lagrange.{combine}
 use Rattle.circle.proofs.polynomial.Unique.{sub≢zero, mul_cancel}
 
@@ -56,40 +54,9 @@ module _ {K : Type 0} {F : Ops K} (laws : FieldLaws F) where
       ∙ ap (λ u. (z ⊝ k) ⊗ gaps F ks z ⊗ u)
       (sym (inv-mul (s ⊝ k) below (sub≢zero laws s k h.0) (gaps≢zero ks s h.1)))
 
-  gaps_append : (xs ys : List K) (z : K) → gaps F (xs ++ ys) z ≡ gaps F xs z ⊗ gaps F ys z
-  gaps_append [] ys z = ring laws.ring (gaps F ys z ∷ []) (search forms) (search forms) refl
-  gaps_append (k ∷ xs) ys z =
-      ap (λ u. (z ⊝ k) ⊗ u) (gaps_append xs ys z) ∙ sym (laws.ring.mul_assoc (z ⊝ k) (gaps F xs z) (gaps F ys z))
-
-  others_apart : (ks : List K) (i : ℕ) (s : K) → i < length ks → s ≡ get_or ks i s → Distinct ks → AllByRecursion (λ k. s ≢ k) (others ks i)
-  others_apart ks i s h read d =
-      distinct_middle (take i ks) s (drop (i + 1) ks)
-      (subst Distinct
-      (sym (take-append-drop i ks) ∙ ap (λ r. take i ks ++ r) (drop_more ks i s h ∙ ap (λ u. u ∷ drop (i + 1) ks) (sym read))) d)
-
-  -- the constant of the i-th point, by the points before and after it
-  pub constant_by_gaps : (ks : List K) (i : ℕ) (s z : K) → i < length ks → s ≡ get_or ks i s → Distinct ks
-      → (gaps_beside F ks i s ≢ 𝟘) × (constant F (others ks i) s z ≡ gaps_beside F ks i z ⊗ inv (gaps_beside F ks i s))
-  constant_by_gaps ks i s z h read d =
-      let apart = others_apart ks i s h read d in
-      let split = gaps_append (take i ks) (drop (i + 1) ks) in (
-        (λ e. gaps≢zero (others ks i) s apart (split s ∙ e)),
-        constant_fraction (others ks i) s z apart ∙ ap₂ (λ u v. u ⊗ inv v) (split z) (split s),
-      )
-
 -- ## The sum that the constants weigh
 
 module _ {K : Type 0} (F : Ops K) where
-  -- equal weights give equal sums
-  pub weighted_same : (v w : ℕ → K) (i : ℕ) (vs : List K) → ((k : ℕ) → k < length vs → v (i + k) ≡ w (i + k)) → weighted F v i vs ≡ weighted F w i vs
-  weighted_same v w i [] same = refl
-  weighted_same v w i (x ∷ vs) same =
-      let i0 : i + 0 ≡ i = omega arith in
-      let first : v i ≡ w i = subst (λ n. v n ≡ w n) i0 (same 0 (omega arith)) in
-      let rest = weighted_same v w (i + 1) vs
-      (λ k less. let e : i + (k + 1) ≡ i + 1 + k = omega arith in subst (λ n. v n ≡ w n) e (same (k + 1) (omega arith))) in
-      ap₂ (λ a b. F.add (F.mul a x) b) first rest
-
   module _ (z : K) where
     -- the constant of the point s, with the points `before` before it and `after` after it
     constant_at : (before after : List K) (s : K) (i : ℕ) → length before ≡ i

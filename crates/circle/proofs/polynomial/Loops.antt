@@ -1,29 +1,25 @@
--- What the loops over numbers and ids use: what is done so far and what is left come to the whole. Assumes nothing.
-use Rattle.std.proofs.Common.{◌≡◌, ℕ, ◌+◌, ◌-◌, ◌<◌, ◌≤◌, true, leb, ◌≢◌, List, [], ◌∷◌, map, length, get_or, drop, sym, ap, ◌∙◌, ap₂, arith}
+-- What the code for values and constants uses. Assumes nothing.
+use Rattle.std.proofs.Common.{◌≡◌, ℕ, ◌≤◌, true, leb, ◌≢◌, List, [], ◌∷◌, map, reverse, fold, sym, refl, ap, ◌∙◌}
 use Rattle.std.specs.List.{AllByRecursion, list_all}
-use Rattle.std.proofs.lemmas.List.{at_drop_more, get_or-map, length-map}
+use Rattle.std.proofs.lemmas.List.Sums.{fold_push}
+use Rattle.std.proofs.lemmas.Grind.{common_steps, reverse_onto}
 use Rattle.std.proofs.lemmas.Bool.{and_parts, leb-true}
-use Rattle.fields.specs.Field.{Ops, FieldLaws, Points, sub}
+use Rattle.fields.specs.Field.{Ops, FieldLaws, Points}
 use Rattle.circle.specs.Ids.{has_point}
-use Rattle.circle.specs.Lists.{Distinct, others}
-use Rattle.circle.specs.Polynomial.{eval, constant, constant_of}
-use Rattle.circle.specs.PolynomialParts.{gaps, gaps_beside}
-use Rattle.circle.proofs.polynomial.ConstantLaws.{gaps≢zero, constant_fraction, constant_by_gaps}
+use Rattle.circle.specs.Lists.{Distinct}
+use Rattle.circle.specs.Polynomial.{eval, constant}
+use Rattle.circle.specs.LagrangeParts.{gaps}
+use Rattle.circle.proofs.polynomial.ConstantLaws.{gaps≢zero, constant_fraction}
 
--- one coefficient more, downwards
-pub eval_more : {K : Type 0} (F : Ops K) (f : List K) (i : ℕ) (c x : K) → 0 < i → i ≤ length f → c ≡ get_or f (i - 1) c
-    → eval F (drop (i - 1) f) x ≡ F.add c (F.mul x (eval F (drop i f) x))
-eval_more F f i c x h n read =
-    let up : i - 1 + 1 ≡ i = omega arith in
-    at_drop_more (λ r. eval F r x) f (i - 1) c (omega arith)
-    ∙ ap₂ (λ d j. F.add d (F.mul x (eval F (drop j f) x))) (sym read) up
+-- Horner's rule
+pub eval_fold : {K : Type 0} (F : Ops K) (f : List K) (x : K) → eval F f x ≡ fold (λ sum c. F.add c (F.mul x sum)) F.zero (reverse f)
+eval_fold {K} F [] x = refl
+eval_fold {K} F (c ∷ f) x =
+    let step : K → K → K = λ sum d. F.add d (F.mul x sum) in
+    ap (λ sum. step sum c) (eval_fold F f x) ∙ sym (fold_push step F.zero (reverse f) c) ∙ ap (fold step F.zero) (sym (reverse_onto f c []))
 
--- one difference more, upwards
-pub gaps_more : {K : Type 0} (F : Ops K) (at : ℕ → K) (ids : List ℕ) (i id : ℕ) (z : K) → i < length ids → id ≡ get_or ids i 0
-    → gaps F (map at (drop i ids)) z ≡ F.mul (sub F z (at id)) (gaps F (map at (drop (i + 1) ids)) z)
-gaps_more F at ids i id z within read =
-    at_drop_more (λ r. gaps F (map at r) z) ids i 0 within
-    ∙ ap (λ n. F.mul (sub F z (at n)) (gaps F (map at (drop (i + 1) ids)) z)) (sym read)
+-- what a search for the value lacks
+pub ruleset horner = (common_steps, eval_fold)
 
 -- ## The points of different ids differ
 
@@ -47,17 +43,6 @@ module _ {K : Type 0} {F : Ops K} (m : Points F) where
   points_differ (h ∷ ids) known differ =
       let parts = and_parts (has_point m.largest h) (list_all (has_point m.largest) ids) known in
       (apart_from h parts.0 ids parts.1 differ.0, points_differ ids parts.1 differ.1)
-
--- the constant of an id, by one inverse
-pub constant_met : {K : Type 0} {F : Ops K} (laws : FieldLaws F) (m : Points F) (ids : List ℕ) (i : ℕ) (z s : K) → i < length ids
-    → list_all (has_point m.largest) ids ≡ true → Distinct ids → s ≡ m.at (get_or ids i 0)
-    → (gaps_beside F (map m.at ids) i s ≢ F.zero)
-    × (constant_of F (map m.at ids) z i ≡ F.mul (gaps_beside F (map m.at ids) i z) (F.inv (gaps_beside F (map m.at ids) i s)))
-constant_met {K} {F} laws m ids i z s within known differ at =
-    let ks = map m.at ids in
-    let here : (d : K) → get_or ks i d ≡ s = λ d. get_or-map m.at ids i 0 d within ∙ sym at in
-    let by = constant_by_gaps laws ks i s z (omega (arith, length-map ids m.at)) (sym (here s)) (points_differ m ids known differ) in
-    (by.0, ap (λ u. constant F (others ks i) u z) (here F.zero) ∙ by.1)
 
 -- the constant of an id beside other ids, by one inverse
 pub constant_beside : {K : Type 0} {F : Ops K} (laws : FieldLaws F) (m : Points F) (h : ℕ) (ids : List ℕ) (z : K) → has_point m.largest h ≡ true

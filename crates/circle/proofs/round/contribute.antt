@@ -1,2 +1,3 @@
 -- What the proofs of contributing use.
 pub mod Portions
+pub mod Parts

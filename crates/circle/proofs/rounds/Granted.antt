@@ -8,7 +8,7 @@ use Rattle.circle.specs.declared.kind.Kind.{Kind}
 use Rattle.circle.specs.declared.kind.Kind.TheVariants.{Refresh, Dismissal, Change, Admission}
 use Rattle.circle.specs.Begin.{begin_answer}
 use Rattle.circle.specs.Contribute.{contribute_answer}
-use Rattle.circle.specs.Finish.{finish_answer, abandon_answer}
+use Rattle.circle.specs.Finish.{finish_answer}
 use Rattle.circle.specs.Kind.{contributors, ids_known, threshold_fits, on_roll, newcomer_new, helpers_enough, enough_stay, epoch_left}
 use Rattle.circle.specs.Round.{RoundFacts, after, terms}
 use Rattle.circle.specs.RoundLaws.{Proper}
@@ -112,11 +112,6 @@ finishes largest r table tally c ok =
       tally_length = eqb-true _ _ (not-false _ both.1);
       all = not-false _ t3.0;
     }
-
-pub abandons : (r : RoundFacts) (tally : ℕ) (c : Facts) → abandon_answer r tally ≡ Ok c → (c ≡ r.circle) × (tally ≡ 32 * r.circle.places)
-abandons r tally c ok =
-    let t1 = passed (not (eqb tally (32 * r.circle.places))) _ _ c ok in
-    (cc, eqb-true _ _ (not-false _ t1.0))
 
 -- ## What each kind asks
 

@@ -5,9 +5,9 @@ ghost use Rattle.circle.specs.Card.{show_answer, show_shares, shares_of};
 ghost use Rattle.circle.specs.State.{facts};
 
 use crate::denial::Denial;
-use crate::ids;
+use crate::lagrange::has_point;
 use crate::state::Circle;
-use crate::table::spot;
+use crate::table::entry_of;
 use fields::field::Field;
 
 // Writes the shares that the table holds for the id.
@@ -18,8 +18,8 @@ fn copy_shares<F: Field>(id: u8, table: &[F], shares: &mut [F])
     requires table { length table.now ≡ 32 * length shares.old }
     ensures { shares.new ≡ shares_of F.ops table.now id (length shares.old) }
 {
-    for p in 0..shares.len() {
-        shares[p] = table[spot(p, id)];
+    for (p, share) in shares.iter_mut().enumerate() {
+        *share = entry_of(table, p, id);
     }
 }
 
@@ -34,13 +34,13 @@ pub fn show<F: Field>(
     ensures shares { shares.new ≡ show_shares F.ops result (facts circle.now) id table.now shares.old }
 {
     let places = circle.places as usize;
-    if id < 1 || id > F::max_id() {
+    if !has_point::<F>(id) {
         return Err(Denial::NoSuchId);
     }
     if table.len() != 32 * places || shares.len() != places {
         return Err(Denial::Length);
     }
-    if !ids::contains(circle.roll, id) {
+    if !circle.roll.contains(id) {
         return Err(Denial::NotOnRoll);
     }
     copy_shares(id, table, shares);

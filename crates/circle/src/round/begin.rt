@@ -1,33 +1,49 @@
 //! Beginning a round: a refresh, a dismissal, a change of the threshold, or an admission.
 
-ghost use Rattle.std.specs.Prelude.{◌≡◌, true, length};
+ghost use Rattle.std.specs.Prelude.{◌≡◌, length, Ok, Err, MatchResult};
 ghost use Rattle.circle.specs.declared.kind.Kind.{Kind};
 ghost use Rattle.circle.specs.Begin.{begun, begin_answer, begin_tally};
-ghost use Rattle.circle.specs.Kind.{ids_known, threshold_fits, on_roll, enough_stay, epoch_left};
-ghost use Rattle.circle.specs.Round.{round_facts};
 ghost use Rattle.circle.specs.State.{facts};
 
 use crate::denial::Denial;
+use crate::ids::IdSet;
 use crate::kind::Kind;
 use crate::round::{Receipt, Round};
 use crate::state::Circle;
 use crate::table::clear;
 use fields::field::Field;
 
-// The round, to which no one has contributed.
-fn opened<F: Field>(circle: Circle<F>, kind: Kind) -> Round<F>
-    requires known { ids_known kind F.points.largest ≡ true }
-    requires threshold { threshold_fits kind circle.roll ≡ true }
-    requires roll { on_roll kind circle.roll ≡ true }
-    requires stay { enough_stay kind circle.roll circle.threshold ≡ true }
-    requires epoch { epoch_left kind circle.epoch ≡ true }
-    ensures { round_facts result ≡ record { circle = facts circle; kind = kind; contributed = 0 } }
+// Tests what is handed over, in the order of the denials.
+fn tested<F: Field>(circle: &Circle<F>, kind: &Kind, tally: usize) -> Result<(), Denial>
+    ensures { MatchResult result
+        (λ _. begin_answer F.points.largest (facts circle.now) kind.now tally ≡ Ok (record { circle = facts circle.now; kind = kind.now; contributed = 0 }))
+        (λ denial. begin_answer F.points.largest (facts circle.now) kind.now tally ≡ Err (facts circle.now, denial)) }
 {
-    Round {
-        circle,
-        kind,
-        contributed: 0,
+    if !kind.ids_known(F::max_id()) {
+        return Err(Denial::NoSuchId);
     }
+    if !kind.threshold_fits(circle.roll) {
+        return Err(Denial::Threshold);
+    }
+    if tally != 32 * circle.places as usize {
+        return Err(Denial::Length);
+    }
+    if !kind.on_roll(circle.roll) {
+        return Err(Denial::NotOnRoll);
+    }
+    if !kind.newcomer_new(circle.roll) {
+        return Err(Denial::AlreadyOnRoll);
+    }
+    if !kind.helpers_enough(circle.threshold) {
+        return Err(Denial::WrongHelpers);
+    }
+    if !kind.enough_stay(circle.roll, circle.threshold) {
+        return Err(Denial::TooFewLeft);
+    }
+    if !kind.epoch_left(circle.epoch) {
+        return Err(Denial::LastEpoch);
+    }
+    Ok(())
 }
 
 /// Begins a round of the kind.
@@ -39,32 +55,18 @@ pub fn begin<F: Field>(
     ensures answer { begun result ≡ begin_answer F.points.largest (facts circle) kind (length tally.old) }
     ensures tally { tally.new ≡ begin_tally F.ops (begun result) tally.old }
 {
-    if !kind.ids_known(F::max_id()) {
-        return Err((circle, Denial::NoSuchId));
+    match tested(&circle, &kind, tally.len()) {
+        Ok(()) => {
+            clear(tally);
+            let round = Round {
+                circle,
+                kind,
+                contributed: IdSet::empty(),
+            };
+            Ok((round, Receipt { sealed: () }))
+        }
+        Err(denial) => Err((circle, denial)),
     }
-    if !kind.threshold_fits(circle.roll) {
-        return Err((circle, Denial::Threshold));
-    }
-    if tally.len() != 32 * circle.places as usize {
-        return Err((circle, Denial::Length));
-    }
-    if !kind.on_roll(circle.roll) {
-        return Err((circle, Denial::NotOnRoll));
-    }
-    if !kind.newcomer_new(circle.roll) {
-        return Err((circle, Denial::AlreadyOnRoll));
-    }
-    if !kind.helpers_enough(circle.threshold) {
-        return Err((circle, Denial::WrongHelpers));
-    }
-    if !kind.enough_stay(circle.roll, circle.threshold) {
-        return Err((circle, Denial::TooFewLeft));
-    }
-    if !kind.epoch_left(circle.epoch) {
-        return Err((circle, Denial::LastEpoch));
-    }
-    clear(tally);
-    Ok((opened(circle, kind), Receipt { sealed: () }))
 }
 
 impl<F: Field> Circle<F> {
@@ -92,7 +94,7 @@ impl<F: Field> Circle<F> {
     pub fn change(
         self,
         threshold: u16,
-        helpers: u32,
+        helpers: IdSet,
         tally: &mut [F],
     ) -> Result<(Round<F>, Receipt), (Circle<F>, Denial)>
         ensures answer { begun result ≡ begin_answer F.points.largest (facts self) (Kind.Change threshold helpers) (length tally.old) }
@@ -105,7 +107,7 @@ impl<F: Field> Circle<F> {
     pub fn admit(
         self,
         id: u8,
-        helpers: u32,
+        helpers: IdSet,
         tally: &mut [F],
     ) -> Result<(Round<F>, Receipt), (Circle<F>, Denial)>
         ensures answer { begun result ≡ begin_answer F.points.largest (facts self) (Kind.Admission id helpers) (length tally.old) }

@@ -1,60 +1,28 @@
 //! The end of a round.
 
-ghost use Rattle.std.specs.Prelude.{◌≡◌, ◌+◌, ◌*◌, ◌<◌, ◌≤◌, true, map, length};
-ghost use Rattle.circle.specs.Finish.{ended, share_after, finished, finish_answer, finish_table, abandon_answer, end_tally};
-ghost use Rattle.circle.specs.Kind.{roll_after};
-ghost use Rattle.circle.specs.Round.{round_facts};
-ghost use Rattle.circle.specs.RoundLaws.{Rounds};
-ghost use Rattle.circle.specs.Table.{entry, grid, only};
-ghost use Rattle.circle.specs.Ids.{members, within_largest};
+ghost use Rattle.std.specs.Prelude.{◌≡◌, ◌+◌, ◌*◌, ◌≤◌, map, length, Ok, Err, MatchResult};
+ghost use Rattle.circle.specs.Finish.{ended, share_after, finish_answer, finish_table, abandon_answer, end_tally};
+ghost use Rattle.circle.specs.Ids.{members};
 ghost use Rattle.circle.specs.Polynomial.{sum};
+ghost use Rattle.circle.specs.Round.{round_facts, after};
+ghost use Rattle.circle.specs.RoundLaws.{Rounds};
+ghost use Rattle.circle.specs.Table.{entry, only};
 
-use crate::deal::point_on;
 use crate::denial::Denial;
-use crate::ids;
+use crate::holders::Holders;
+use crate::ids::IdSet;
 use crate::kind::Kind;
 use crate::round::{Receipt, Round};
 use crate::state::Circle;
-use crate::table::{clear, entry_of};
+use crate::table::{clear, entry_of, sum, update};
 use fields::field::Field;
-use std::marker::PhantomData;
 
 // The sum of what the tally holds for the ids of the set at the place p.
-fn total<F: Field>(set: u32, tally: &[F], p: usize) -> F
-    requires place { p < 32 }
-    requires long { 32 * p + 32 ≤ length tally.now }
+fn total<F: Field>(set: IdSet, tally: &[F], p: usize) -> F
+    requires { 32 * p + 32 ≤ length tally.now }
     ensures { result ≡ sum F.ops (map (entry F.ops.zero tally.now p) (members set)) }
 {
-    let mut sum = F::zero();
-    for id in ids::members(set) {
-        sum = sum.add(entry_of(tally, p, id));
-    }
-    sum
-}
-
-// The share of the id h at the place p, where it had `share`: zero off the roll that the round leads to.
-fn new_share<F: Field>(kind: Kind, roll: u32, share: F, tally: &[F], p: usize, h: u8) -> F
-    requires known { within_largest (roll_after kind roll) F.points.largest ≡ true }
-    requires place { p < 32 }
-    requires low { 1 ≤ h }
-    requires high { h ≤ 32 }
-    requires long { 32 * p + 32 ≤ length tally.now }
-    ensures { result ≡ only F.ops (roll_after kind roll) h (share_after F.ops F.points.at kind (λ _. share) (entry F.ops.zero tally.now p) h) }
-{
-    match point_on::<F>(kind.roll_after(roll), h) {
-        Some(x) => match kind {
-            Kind::Refresh | Kind::Dismissal { .. } => share.add(x.mul(entry_of(tally, p, h))),
-            Kind::Change { .. } => entry_of(tally, p, h),
-            Kind::Admission { newcomer, helpers } => {
-                if h == newcomer {
-                    total(helpers, tally, p)
-                } else {
-                    share
-                }
-            }
-        },
-        None => F::zero(),
-    }
+    sum(set.members().map(|id| entry_of(tally, p, id)))
 }
 
 // What a whole round does to the polynomials of the shares, shown once.
@@ -63,61 +31,38 @@ fn rounds_shown<F: Field>()
 {}
 
 impl<F: Field> Round<F> {
-    // Writes the shares that the round leads to.
-    fn renew_table(&self, table: &mut [F], tally: &[F])
-        requires known { within_largest (roll_after self.now.kind self.now.circle.roll) F.points.largest ≡ true }
-        requires table { length table.old ≡ 32 * self.now.circle.places }
-        requires tally { length tally.now ≡ 32 * self.now.circle.places }
-        ensures { table.new ≡ grid self.now.circle.places (finished F.ops F.points.at (round_facts self.now) table.old tally.now) }
+    // Tests what is handed over, in the order of the denials, and gives those who hold a share then.
+    fn ready(&self, table: usize, tally: usize) -> Result<Holders<F>, Denial>
+        ensures { MatchResult result
+            (λ holders. (finish_answer F.points.largest (round_facts self.now) table tally ≡ Ok (after (round_facts self.now))) × (holders.set ≡ (after (round_facts self.now)).roll))
+            (λ denial. finish_answer F.points.largest (round_facts self.now) table tally ≡ Err (round_facts self.now, denial)) }
     {
-        for k in 0..table.len() {
-            table[k] = new_share(
-                self.kind,
-                self.circle.roll,
-                table[k],
-                tally,
-                k / 32,
-                (k % 32) as u8 + 1,
-            );
+        let next = self.after();
+        let holders = Holders::of(next.roll).ok_or(Denial::NoSuchId)?;
+        let entries = 32 * next.places as usize;
+        if table != entries || tally != entries {
+            return Err(Denial::Length);
         }
+        if !self.contributors().is_subset(self.contributed) {
+            return Err(Denial::ContributionMissing);
+        }
+        Ok(holders)
     }
 
-    // Tests what is handed over, in the order of the denials, and finishes.
-    fn tested_finish(
-        self,
-        receipt: Receipt,
-        table: &mut [F],
-        tally: &mut [F],
-    ) -> Result<Circle<F>, (Round<F>, Receipt, Denial)>
-        ensures answer { ended result ≡ finish_answer F.points.largest (round_facts self) (length table.old) (length tally.old) }
-        ensures table { table.new ≡ finish_table F.ops F.points.at (ended result) (round_facts self) table.old tally.old }
-        ensures tally { tally.new ≡ end_tally F.ops (ended result) tally.old }
+    // The share of the id h at the place p, where it had `share`: zero off the holders.
+    fn new_share(&self, holders: &Holders<F>, share: F, tally: &[F], p: usize, h: u8) -> F
+        requires { 32 * p + 32 ≤ length tally.now }
+        ensures { result ≡ only F.ops holders.now.set h (share_after F.ops F.points.at self.now.kind (λ _. share) (entry F.ops.zero tally.now p) h) }
     {
-        let n = self.circle.places as usize;
-        if !ids::all_within(self.kind.roll_after(self.circle.roll), F::max_id()) {
-            return Err((self, receipt, Denial::NoSuchId));
+        let Some(x) = holders.point(h) else {
+            return F::zero();
+        };
+        match self.kind {
+            Kind::Refresh | Kind::Dismissal { .. } => share + x * entry_of(tally, p, h),
+            Kind::Change { .. } => entry_of(tally, p, h),
+            Kind::Admission { newcomer, helpers } if h == newcomer => total(helpers, tally, p),
+            Kind::Admission { .. } => share,
         }
-        if table.len() != 32 * n || tally.len() != 32 * n {
-            return Err((self, receipt, Denial::Length));
-        }
-        if !ids::is_subset(self.kind.contributors(self.circle.roll), self.contributed) {
-            return Err((self, receipt, Denial::ContributionMissing));
-        }
-        self.renew_table(table, tally);
-        clear(tally);
-        let Receipt { sealed: _ } = receipt;
-        let Round {
-            circle,
-            kind,
-            contributed: _,
-        } = self;
-        Ok(Circle {
-            roll: kind.roll_after(circle.roll),
-            threshold: kind.threshold_after(circle.threshold),
-            epoch: kind.epoch_after(circle.epoch),
-            places: circle.places,
-            field: PhantomData,
-        })
     }
 
     /// Ends the round, once everyone who contributes has: writes the shares that it leads to, and gives the circle.
@@ -133,7 +78,19 @@ impl<F: Field> Round<F> {
         ensures rounds { Rounds F.ops F.points }
     {
         rounds_shown::<F>();
-        self.tested_finish(receipt, table, tally)
+        match self.ready(table.len(), tally.len()) {
+            Ok(holders) => {
+                update(
+                    table,
+                    |p, h, share| self.new_share(&holders, share, tally, p, h),
+                );
+                clear(tally);
+                let next = self.after();
+                drop(self.close(receipt));
+                Ok(next)
+            }
+            Err(denial) => Err((self, receipt, denial)),
+        }
     }
 
     /// Gives the circle back as it was before the round.
@@ -149,12 +106,6 @@ impl<F: Field> Round<F> {
             return Err((self, receipt, Denial::Length));
         }
         clear(tally);
-        let Receipt { sealed: _ } = receipt;
-        let Round {
-            circle,
-            kind: _,
-            contributed: _,
-        } = self;
-        Ok(circle)
+        Ok(self.close(receipt))
     }
 }

@@ -1,19 +1,22 @@
 -- A line of the form is the spelling of its step.
 use Rattle.std.proofs.Common.{◌≡◌, ℕ, ◌≤◌, Bool, true, cond, ◌&&◌, eqb, ltb, leb, List, [], ◌∷◌, ◌++◌, map, length, get_or, drop, Some, None, Option, sym, refl, ap, ◌∙◌, inl, inr, arith}
-use Rattle.std.specs.List.{flat_map, list_all, AllByRecursion}
+use Rattle.std.specs.List.{flat_map, join_with_byte, list_all, onto_first, AllByRecursion}
 use Rattle.std.specs.Option.{option_map}
 use Rattle.std.specs.Str.{bytes_eq}
 use Rattle.std.proofs.lemmas.List.{append_assoc, append-nil}
+use Rattle.std.proofs.lemmas.List.Splits.{join_with_byte-slice_split}
 use Rattle.std.proofs.lemmas.Slice.Eq.{bytes_eq-Decides}
+use Rattle.std.proofs.lemmas.Map.Entries.{option_filter}
+use Rattle.std.proofs.lemmas.Option.{none-some, same_Some, cond_some}
 use Rattle.std.proofs.lemmas.Bool.{and_parts, cases_Bool, eqb-true, leb-true}
-use Rattle.script.specs.Grammar.{split, onto, words, is_space, number, is_slash_word, token, also, tokens, is_slash, values, sections, part}
-use Rattle.script.specs.Steps.{Meaning, named, refreshed, dismissed, changed, admitted, contributed, finished, abandoned, shown, in_range, is_card, is_lone_id, card_stands, stated, names, named_by, field_name, name_form, deal_stands, deal_form, first, alone_stands, alone_form, id_stands, lone_id, lists_ids, lists_elements, pair_stands, change_form, admit_form, contribute_form, open_stands, open_form, of_sections, under, letters, letter_form, form}
+use Rattle.script.specs.Grammar.{split, words, is_space, number, is_slash_word, token, also, tokens, is_slash, values, sections, part}
+use Rattle.script.specs.Steps.{Meaning, named, refreshed, dismissed, changed, admitted, contributed, finished, abandoned, shown, in_range, is_card, is_lone_id, card_stands, stated, names, named_by, field_name, name_form, deal_stands, deal_form, first, alone_stands, alone_form, id_stands, lone_id, lists_ids, lists_elements, pair_stands, change_form, admit_form, contribute_form, open_stands, open_form, of_sections, under, letters, letter_form, any_form, known, form}
 use Rattle.script.specs.Spelling.{number_text, section_text, field_text, card_text, spelled}
 use Rattle.script.specs.declared.grammar.Token.{Token}
 use Rattle.script.specs.declared.grammar.Token.TheVariants.{Number, Slash}
 use Rattle.script.specs.declared.steps.FieldName.{FieldName}
 use Rattle.script.proofs.grammar.Laws.{split_cut}
-use Rattle.script.proofs.grammar.Numbers.{some_under, some_same, number_reads}
+use Rattle.script.proofs.grammar.Numbers.{some_under, number_reads}
 
 -- ## Words
 
@@ -21,22 +24,16 @@ use Rattle.script.proofs.grammar.Numbers.{some_under, some_same, number_reads}
 abbrev spaced : List (List ℕ) → List ℕ
 spaced ws = flat_map (λ w. 32 ∷ w) ws
 
-onto_first : (y : ℕ) (ps : List (List ℕ)) → part (onto y ps) 0 ++ spaced (drop 1 (onto y ps)) ≡ y ∷ (part ps 0 ++ spaced (drop 1 ps))
-onto_first y [] = refl
-onto_first y (p ∷ ps) = refl
+joined : (word : List ℕ) (ws : List (List ℕ)) → join_with_byte 32 (word ∷ ws) ≡ word ++ spaced ws
+joined word [] = sym (append-nil word)
+joined word (w ∷ ws) = ap (λ r. word ++ (32 ∷ r)) (joined w ws)
 
 -- the words of a line, and the spaces between them, are the line
 unsplit : (line : List ℕ) → part (words line) 0 ++ spaced (drop 1 (words line)) ≡ line
-unsplit [] = refl
-unsplit (b ∷ line) =
-    elim (cases_Bool (is_space b)) [
-      | inl space ↦
-          let is : b ≡ 32 = eqb-true b 32 space in
-          let cut = split_cut is_space line in
-          let whole : spaced (words line) ≡ 32 ∷ line = rw cut (ap (λ r. 32 ∷ r) (rw cut at (unsplit line))) in
-          rw space (whole ∙ ap (λ x. x ∷ line) (sym is))
-      | inr other ↦ rw other (onto_first b (words line) ∙ ap (λ r. b ∷ r) (unsplit line))
-    ]
+unsplit line =
+    let cut = split_cut is_space line in
+    let whole : join_with_byte 32 (words line) ≡ line = join_with_byte-slice_split 32 line in
+    rw cut (sym (joined _ _)) ∙ ap (join_with_byte 32) (sym cut) ∙ whole
 
 lone_first : (first rest line : List ℕ) → first ++ rest ≡ line → length first ≡ 1 → line ≡ get_or line 0 0 ∷ rest
 lone_first [] rest line whole one = absurd (omega arith)
@@ -55,28 +52,28 @@ slash_spelled word is =
     lone_first word [] word (append-nil word) (eqb-true _ _ parts.0) ∙ ap (λ b. b ∷ []) (eqb-true _ _ parts.1)
 
 number_spelled : (word : List ℕ) (o : Option ℕ) (t : Token) → number word ≡ o → option_map Number o ≡ Some t → 32 ∷ word ≡ token_text t
-number_spelled word None t is some = let z : ◌≡◌ {A = ℕ} 0 1 = cc in absurd (omega arith)
+number_spelled word None t is some = absurd (none-some t some)
 number_spelled word (Some n) t is some =
-    let same : Number n ≡ t = some_same _ _ some in
+    let same : Number n ≡ t = same_Some _ _ some in
     ap (λ w. 32 ∷ w) (number_reads word n is).0 ∙ ap token_text same
 
 token_spelled : (word : List ℕ) (t : Token) → token word ≡ Some t → 32 ∷ word ≡ token_text t
 token_spelled word t is =
     elim (cases_Bool (is_slash_word word)) [
       | inl slash ↦
-          let same : Slash ≡ t = some_same _ _ (rw slash at is) in
+          let same : Slash ≡ t = same_Some _ _ (rw slash at is) in
           ap (λ w. 32 ∷ w) (slash_spelled word slash) ∙ ap token_text same
       | inr other ↦ number_spelled word (number word) t refl (rw other at is)
     ]
 
 also_some : {A : Type 0} (o : Option A) (rest : Option (List A)) (xs : List A) → also o rest ≡ Some xs
     → (x : A) × ((ys : List A) × ((o ≡ Some x) × ((rest ≡ Some ys) × (xs ≡ x ∷ ys))))
-also_some None rest xs e = let z : ◌≡◌ {A = ℕ} 0 1 = cc in absurd (omega arith)
-also_some (Some x) None xs e = let z : ◌≡◌ {A = ℕ} 0 1 = cc in absurd (omega arith)
+also_some None rest xs e = absurd (none-some xs e)
+also_some (Some x) None xs e = absurd (none-some xs e)
 also_some (Some x) (Some ys) xs e = (x, (ys, (refl, (refl, cc))))
 
 tokens_spelled : (ws : List (List ℕ)) (ts : List Token) → tokens ws ≡ Some ts → spaced ws ≡ flat_map token_text ts
-tokens_spelled [] ts is = ap (flat_map token_text) (some_same _ _ is)
+tokens_spelled [] ts is = ap (flat_map token_text) (same_Some _ _ is)
 tokens_spelled (w ∷ ws) ts is =
     let both = also_some (token w) (tokens ws) ts is in
     let facts = both.1.1 in
@@ -90,7 +87,7 @@ tokens_spelled (w ∷ ws) ts is =
 abbrev sections_text : List (List ℕ) → List ℕ
 sections_text ss = flat_map number_text (part ss 0) ++ flat_map section_text (drop 1 ss)
 
-onto_text : (n : ℕ) (ps : List (List Token)) → sections_text (map values (onto (Number n) ps)) ≡ number_text n ++ sections_text (map values ps)
+onto_text : (n : ℕ) (ps : List (List Token)) → sections_text (map values (onto_first (Number n) ps)) ≡ number_text n ++ sections_text (map values ps)
 onto_text n [] = append-nil _
 onto_text n (p ∷ ps) = append_assoc (number_text n) (flat_map number_text (values p)) (flat_map section_text (map values ps))
 
@@ -106,10 +103,10 @@ sections_spelled (Slash ∷ ts) =
 
 name_in : (word : List ℕ) (field : FieldName) (entries : List (List ℕ × FieldName)) → AllByRecursion (λ e. e.0 ≡ field_text e.1) entries
     → named_by word entries ≡ Some field → word ≡ field_text field
-name_in word field [] texts is = let z : ◌≡◌ {A = ℕ} 0 1 = cc in absurd (omega arith)
+name_in word field [] texts is = absurd (none-some field is)
 name_in word field (e ∷ es) texts is =
     elim (cases_Bool (bytes_eq word e.0)) [
-      | inl same ↦ (bytes_eq-Decides word e.0).0 same ∙ (texts.0 ∙ ap field_text (some_same _ _ (rw same at is)))
+      | inl same ↦ (bytes_eq-Decides word e.0).0 same ∙ (texts.0 ∙ ap field_text (same_Some _ _ (rw same at is)))
       | inr other ↦ name_in word field es texts.1 (rw other at is)
     ]
 
@@ -122,8 +119,8 @@ one_word (w ∷ []) one = ap (λ r. 32 ∷ r) (append-nil w)
 one_word (w ∷ (v ∷ ws)) one = absurd (omega arith)
 
 mapped_some : {A B : Type 0} (f : A → B) (o : Option A) (y : B) → option_map f o ≡ Some y → (x : A) × ((o ≡ Some x) × (f x ≡ y))
-mapped_some f None y e = let z : ◌≡◌ {A = ℕ} 0 1 = cc in absurd (omega arith)
-mapped_some f (Some x) y e = (x, (refl, some_same _ _ e))
+mapped_some f None y e = absurd (none-some y e)
+mapped_some f (Some x) y e = (x, (refl, same_Some _ _ e))
 
 named_spelled : (rest : List (List ℕ)) (step : Meaning) → option_map named (name_form rest) ≡ Some step → spelled step ≡ 77 ∷ spaced rest
 named_spelled rest step is =
@@ -136,7 +133,7 @@ named_spelled rest step is =
 sections_step : (letter : ℕ) (form_of : List (List ℕ) → Option Meaning)
     → ((ss : List (List ℕ)) (step : Meaning) → form_of ss ≡ Some step → spelled step ≡ letter ∷ sections_text ss)
     → (rest : List (List ℕ)) (ts : Option (List Token)) (step : Meaning) → tokens rest ≡ ts → of_sections form_of ts ≡ Some step → spelled step ≡ letter ∷ spaced rest
-sections_step letter form_of each_step rest None step read is = let z : ◌≡◌ {A = ℕ} 0 1 = cc in absurd (omega arith)
+sections_step letter form_of each_step rest None step read is = absurd (none-some step is)
 sections_step letter form_of each_step rest (Some ts) step read is =
     each_step (sections ts) step is
     ∙ ap (λ r. letter ∷ r) (sym (tokens_spelled rest ts read ∙ sections_spelled ts))
@@ -171,7 +168,7 @@ dealt_spelled size ss step is =
     let stands = some_under (deal_stands size ss) _ step is in
     let count = and_parts (eqb (length ss) 4) _ stands.0 in
     let head = and_parts (eqb (length (part ss 0)) 2) _ count.1 in
-    ap spelled (sym (some_same _ _ stands.1)) ∙ ap (λ r. 68 ∷ r) (sym (deal_text ss (eqb-true _ _ count.0) (eqb-true _ _ head.0)))
+    ap spelled (sym (same_Some _ _ stands.1)) ∙ ap (λ r. 68 ∷ r) (sym (deal_text ss (eqb-true _ _ count.0) (eqb-true _ _ head.0)))
 
 id_text : (ss : List (List ℕ)) → length ss ≡ 1 → length (part ss 0) ≡ 1 → sections_text ss ≡ number_text (first ss)
 id_text [] one lone = absurd (omega arith)
@@ -189,7 +186,7 @@ id_spelled letter make text ss step is =
     ap spelled (sym inside.1.1)
     ∙ (text inside.0
     ∙ ap (λ r. letter ∷ r)
-    (ap number_text (sym (some_same _ _ stands.1)) ∙ sym (id_text ss (eqb-true _ _ count.0) (eqb-true _ _ head.0))))
+    (ap number_text (sym (same_Some _ _ stands.1)) ∙ sym (id_text ss (eqb-true _ _ count.0) (eqb-true _ _ head.0))))
 
 none_text : (ss : List (List ℕ)) → length ss ≡ 1 → length (part ss 0) ≡ 0 → sections_text ss ≡ []
 none_text [] one none = absurd (omega arith)
@@ -203,7 +200,7 @@ alone_spelled : (letter : ℕ) (whole : Meaning) → spelled whole ≡ letter �
 alone_spelled letter whole text ss step is =
     let stands = some_under (alone_stands ss) _ step is in
     let parts = and_parts (eqb (length ss) 1) _ stands.0 in
-    ap spelled (sym (some_same _ _ stands.1))
+    ap spelled (sym (same_Some _ _ stands.1))
     ∙ (text ∙ ap (λ r. letter ∷ r) (sym (none_text ss (eqb-true _ _ parts.0) (eqb-true _ _ parts.1))))
 
 pair_text : (ss : List (List ℕ)) → length ss ≡ 2 → length (part ss 0) ≡ 1 → sections_text ss ≡ number_text (first ss) ++ section_text (part ss 1)
@@ -222,7 +219,7 @@ pair_spelled : (letter : ℕ) (more : List (List ℕ) → Bool) (make : ℕ → 
 pair_spelled letter more make text ss step is =
     let stands = some_under (pair_stands ss && more ss) _ step is in
     let pair = and_parts (eqb (length ss) 2) _ (and_parts (pair_stands ss) (more ss) stands.0).0 in
-    ap spelled (sym (some_same _ _ stands.1))
+    ap spelled (sym (same_Some _ _ stands.1))
     ∙ (text (first ss) (part ss 1) ∙ ap (λ r. letter ∷ r) (sym (pair_text ss (eqb-true _ _ pair.0) (eqb-true _ _ pair.1))))
 
 card_spelled : (s : List ℕ) → 2 ≤ length s → card_text (stated s) ≡ section_text s
@@ -248,7 +245,7 @@ opened_spelled : (size : ℕ) (ss : List (List ℕ)) (step : Meaning) → open_f
 opened_spelled size ss step is =
     let stands = some_under (open_stands size ss) _ step is in
     let parts = and_parts (eqb (length (part ss 0)) 0) (list_all (card_stands size) (drop 1 ss)) stands.0 in
-    ap spelled (sym (some_same _ _ stands.1))
+    ap spelled (sym (same_Some _ _ stands.1))
     ∙ ap (λ r. 79 ∷ r) (cards_spelled size (drop 1 ss) parts.1 ∙ sym (ap (λ r. r ++ flat_map section_text (drop 1 ss)) (none_first (part ss 0) (eqb-true _ _ parts.0))))
 
 -- ## Lines
@@ -256,7 +253,7 @@ opened_spelled size ss step is =
 under_spelled : (letter : ℕ) (tail : List ℕ) (entries : List (ℕ × Option Meaning))
     → AllByRecursion (λ e. (step : Meaning) → e.1 ≡ Some step → spelled step ≡ e.0 ∷ tail) entries
     → (step : Meaning) → under letter entries ≡ Some step → spelled step ≡ letter ∷ tail
-under_spelled letter tail [] texts step is = let z : ◌≡◌ {A = ℕ} 0 1 = cc in absurd (omega arith)
+under_spelled letter tail [] texts step is = absurd (none-some step is)
 under_spelled letter tail (e ∷ es) texts step is =
     elim (cases_Bool (eqb letter e.0)) [
       | inl same ↦ texts.0 step (rw same at is) ∙ ap (λ c. c ∷ tail) (sym (eqb-true _ _ same))
@@ -303,8 +300,16 @@ letter_spelled size letter rest step is =
       ),
     ) step is
 
-pub form_spelled : (size : ℕ) (line : List ℕ) (step : Meaning) → form size line ≡ Some step → spelled step ≡ line
-form_spelled size line step is =
+any_form_spelled : (size : ℕ) (line : List ℕ) (step : Meaning) → any_form size line ≡ Some step → spelled step ≡ line
+any_form_spelled size line step is =
     let lone = some_under (eqb (length (part (words line) 0)) 1) _ step is in
     letter_spelled size (get_or line 0 0) (drop 1 (words line)) step lone.1
     ∙ sym (lone_first (part (words line) 0) (spaced (drop 1 (words line))) line (unsplit line) (eqb-true _ _ lone.0))
+
+-- what passes a test was there before it
+filtered_some : {A : Type 0} (test : A → Bool) (o : Option A) (x : A) → option_filter test o ≡ Some x → o ≡ Some x
+filtered_some test None x e = absurd (none-some x e)
+filtered_some test (Some y) x e = ap Some (cond_some (test y) y x e).1
+
+pub form_spelled : (rounds : Bool) (size : ℕ) (line : List ℕ) (step : Meaning) → form rounds size line ≡ Some step → spelled step ≡ line
+form_spelled rounds size line step is = any_form_spelled size line step (filtered_some (known rounds) (any_form size line) step is)

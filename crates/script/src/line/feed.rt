@@ -51,7 +51,7 @@ impl Line {
     pub fn bytes(&self) -> &[u8]
         ensures { result.now ≡ held self.now }
     {
-        &self.bytes[0..self.len]
+        &self.bytes[..self.len]
     }
 
     /// Is there a byte since the last line's end?

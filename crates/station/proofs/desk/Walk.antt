@@ -6,11 +6,11 @@ use Rattle.fields.specs.Field.{Ops, Points, Finite}
 use Rattle.circle.specs.Open.{Face, face, faces}
 use Rattle.circle.specs.declared.card.Card.{Card}
 use Rattle.station.specs.Desk.{element_of, elements, face_of}
-use Rattle.station.specs.Grammar.{split, before, is_slash, value, values, part}
-use Rattle.station.specs.Script.{Stated, in_range, is_lone_id, stated, cards, card_section, next_card}
-use Rattle.station.specs.declared.grammar.Token.{Token}
-use Rattle.station.proofs.grammar.Laws.{part_values, first-is, first_long}
-use Rattle.station.proofs.script.Laws.{next_some}
+use Rattle.script.specs.Grammar.{split, before, is_slash, value, values, part}
+use Rattle.script.specs.Steps.{Stated, in_range, is_lone_id, stated, cards, card_section, next_card}
+use Rattle.script.specs.declared.grammar.Token.{Token}
+use Rattle.script.proofs.grammar.Laws.{part_values, first-is, first_long}
+use Rattle.script.proofs.steps.Laws.{next_some}
 
 -- the numbers of a card are those after its slash
 section_is : (ts : List Token) → card_section ts ≡ values (take (length (card_section ts)) (drop 1 ts))
@@ -46,40 +46,47 @@ card_spot ts card more found =
       is.3 ∙ drop-drop (length s) 1 ts ∙ ap (λ k. drop k ts) all,
     )
 
--- ## The loop over the cards: `left` is what is left of the tokens `ts`, of which the elements are `xs`
+-- ## The loop over the cards: `xs` are the elements of the tokens `ts` that are left
 
-module _ {K : Type 0} (F : Ops K) (fin : Finite K) (m : Points F) (ts left : List Token) (at : ℕ) (is : left ≡ drop at ts) where
+module _ {K : Type 0} (F : Ops K) (fin : Finite K) (m : Points F) where
   abbrev shown : List Stated → List (Face K)
   shown cs = map (face_of F fin m) cs
 
-  module _ (card : Stated) (more : List Token) (found : Some (card, more) ≡ next_card left) where
+  -- a part of the elements
+  part_elements : (n k : ℕ) (ts : List Token) → take n (drop k (elements F fin (values ts))) ≡ elements F fin (values (take n (drop k ts)))
+  part_elements n k ts =
+      let element = element_of F fin in
+      ap (take n) (drop-map element k (values ts) ∙ ap (map element) (drop-map value k ts))
+      ∙ take-map element n (values (drop k ts))
+      ∙ ap (map element) (take-map value n (drop k ts))
+
+  module _ (ts : List Token) (xs : List K) (named : xs ≡ elements F fin (values ts)) (card : Stated) (more : List Token) (found : Some (card, more) ≡ next_card ts) where
     abbrev n : ℕ
     n = length card.shares
 
-    pub spot_within : at + 3 + n ≤ length ts
-    spot_within = omega (arith, (card_spot left card more found).0, ap length is, length-drop at ts)
+    -- slash, id and epoch, and then the shares
+    pub card_within : 3 + n ≤ length xs
+    card_within =
+        omega (arith, (card_spot ts card more found).0, ap length named, length-map (values ts) (element_of F fin), length-map ts value)
 
-    pub spot_left : more ≡ drop (at + 3 + n) ts
-    spot_left =
-        let e : at + (3 + n) ≡ at + 3 + n = omega arith in
-        (card_spot left card more found).2 ∙ ap (drop (3 + n)) is ∙ drop-drop (3 + n) at ts ∙ ap (λ k. drop k ts) e
+    pub card_shares : take n (drop 3 xs) ≡ elements F fin card.shares
+    card_shares =
+        ap (λ l. take n (drop 3 l)) named
+        ∙ part_elements n 3 ts
+        ∙ ap (elements F fin) (sym (card_spot ts card more found).1)
 
-    -- the elements at the places of the shares
-    pub spot_shares : (xs : List K) → xs ≡ elements F fin (values ts) → take n (drop (at + 3) xs) ≡ elements F fin card.shares
-    spot_shares xs named =
-        let part : values (take n (drop (at + 3) ts)) ≡ card.shares =
-        ap (λ r. values (take n r)) (sym (drop-drop 3 at ts) ∙ ap (drop 3) (sym is)) ∙ sym (card_spot left card more found).1 in
+    pub card_left : drop n (drop 3 xs) ≡ elements F fin (values more)
+    card_left =
         let element = element_of F fin in
-        ap (λ r. take n (drop (at + 3) r)) named
-        ∙ ap (take n) (drop-map element (at + 3) (values ts))
-        ∙ take-map element n (drop (at + 3) (values ts))
-        ∙ ap (elements F fin) (ap (take n) (drop-map value (at + 3) ts) ∙ take-map value n (drop (at + 3) ts))
-        ∙ ap (elements F fin) part
+        drop-drop n 3 xs
+        ∙ ap (drop (3 + n)) named
+        ∙ drop-map element (3 + n) (values ts)
+        ∙ ap (map element) (drop-map value (3 + n) ts ∙ ap values (sym (card_spot ts card more found).2))
 
     -- one card more
     pub cards_more : (old now : List (Card K)) (x : Card K) (whole : List (Face K))
-        → now ≡ old ++ x ∷ [] → face x ≡ face_of F fin m card → map stated (cards left) ≡ card ∷ map stated (cards more)
-        → faces old ++ shown (map stated (cards left)) ≡ whole → faces now ++ shown (map stated (cards more)) ≡ whole
+        → now ≡ old ++ x ∷ [] → face x ≡ face_of F fin m card → map stated (cards ts) ≡ card ∷ map stated (cards more)
+        → faces old ++ shown (map stated (cards ts)) ≡ whole → faces now ++ shown (map stated (cards more)) ≡ whole
     cards_more old now x whole pushed new next so_far =
         let rest = shown (map stated (cards more)) in
         ap (λ l. faces l ++ rest) pushed

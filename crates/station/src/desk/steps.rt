@@ -1,188 +1,119 @@
-//! The steps at the desk of a field that is named.
+//! The steps at the desk of a field that is named. `heap` goes down to all that allocates, as in the library.
 
-ghost use Rattle.std.specs.Prelude.{◌≡◌, ◌+◌, ◌≤◌, true, [], ◌∷◌, ◌++◌, map, length, take, drop, replicate, IfOk, Some, OnOk};
+ghost use Rattle.std.specs.Prelude.{◌≡◌, ◌+◌, ◌*◌, ◌≤◌, ◌∷◌, min, true, map, length, take, drop, replicate, IfOk, vec_len};
 ghost use Rattle.circle.specs.Ids.{inserted};
-ghost use Rattle.circle.specs.Open.{faces};
-ghost use Rattle.circle.specs.State.{answered, facts};
-ghost use Rattle.station.specs.Desk.{kept, nothing, standing, said_of, set_of, element_of, elements, numbers, deal_said, deal_kept, show_said, open_said, face_of};
-ghost use Rattle.station.specs.DeskParts.{DealtNew, ShownNew, OpenedNew};
-ghost use Rattle.station.specs.Grammar.{sections, value, values};
-ghost use Rattle.station.specs.Script.{cards, open_stands, stated};
+ghost use Rattle.circle.specs.Open.{faces, open_answer};
+ghost use Rattle.circle.specs.Card.{show_answer, shares_of};
+ghost use Rattle.circle.specs.State.{facts};
+ghost use Rattle.circle.specs.Begin.{begun};
+ghost use Rattle.circle.specs.Finish.{ended};
+ghost use Rattle.circle.specs.Round.{round_facts};
+ghost use Rattle.station.specs.Desk.{settled, running, none, kept, settled_kept, running_kept, items_of, circle_standing, kept_after, answer_of, standing, done_with, set_of, element_of, elements, numbers, deal_move, begin_move, contribute_move, finish_move, abandon_move, show_said, open_said, face_of, key_of, blank};
+ghost use Rattle.station.specs.DeskParts.{settled_of, places_of, ended_kept, ended_answer, BegunIn, ContributedIn, FinishedIn, AbandonedIn};
+ghost use Rattle.station.specs.Refusal.{IfAnswered};
+ghost use Rattle.script.specs.Grammar.{sections, value, values};
+ghost use Rattle.script.specs.Steps.{cards, open_stands, stated};
 
-use super::{Answer, Desk};
-use crate::grammar::Token;
-use crate::script::next_card;
+use super::{Desk, Memory, Running, Settled};
+use crate::refusal::{Failure, Refusal};
 use circle::card::Card;
 use circle::card::show::show;
 use circle::deal::deal;
 use circle::denial::Denial;
-use circle::ids;
+use circle::ids::IdSet;
+use circle::kind::Kind;
 use circle::open::open;
+use circle::round::begin::begin;
+use circle::round::{Receipt, Round};
 use circle::state::Circle;
 use fields::field::Field;
+use script::grammar::Token;
+use script::steps::next_card;
 use std::alloc::{AllocError, Global};
+use std::mem::replace;
 
-// The denial of a step that the present state does not allow.
-const NOT_ALLOWED: u8 = 2;
-
-// The element that a token's number names.
-fn element_of<F: Field>(token: Token) -> F
-    ensures { result ≡ element_of F.ops F.finite (value token) }
+// The element that a number names. Zero where it names none, so that it is total: the grammar has refused such a line.
+fn element_of<F: Field>(number: u16) -> F
+    ensures { result ≡ element_of F.ops F.finite number }
 {
-    match F::element(u32::from(token.value())) {
-        Some(x) => x,
-        None => F::zero(),
-    }
+    F::element(u32::from(number)).unwrap_or(F::zero())
 }
 
 // The elements that tokens name.
 fn elements_of<F: Field>(heap: Global, tokens: &[Token]) -> Result<Vec<F>, AllocError>
     ensures { IfOk result (λ v. v.items ≡ elements F.ops F.finite (values tokens.now)) }
 {
-    let mut all = Vec::new(heap);
-    for token in tokens {
-        all.push(element_of(*token))?;
-    }
-    Ok(all)
+    tokens
+        .iter()
+        .map(|token| token.value())
+        .map(|number| element_of(number)) // the check does not cover the function's bare name here
+        .collect(heap)
 }
 
 // So many zeros.
 fn zeros<F: Field>(heap: Global, n: usize) -> Result<Vec<F>, AllocError>
-    ensures { IfOk result (λ v. v.items ≡ replicate n F.ops.zero) }
+    ensures items { IfOk result (λ v. v.items ≡ replicate n F.ops.zero) }
+    ensures long { IfOk result (λ v. vec_len v ≡ n) }
 {
     let mut all = Vec::new(heap);
-    for i in 0..n {
-        all.push(F::zero())?;
-    }
+    all.resize(n, F::zero())?;
     Ok(all)
 }
 
 // The set of the ids that tokens list.
-fn set_of(tokens: &[Token]) -> u32
+pub(crate) fn set_of(tokens: &[Token]) -> IdSet
     ensures { result ≡ set_of (values tokens.now) }
 {
-    let mut set = 0;
-    for token in tokens {
-        set = with_id(set, token.value());
-    }
-    set
+    tokens
+        .iter()
+        .fold(IdSet::empty(), |set, token| with_id(set, token.value()))
 }
 
 // The set with an id.
-fn with_id(set: u32, id: u16) -> u32
+fn with_id(set: IdSet, id: u16) -> IdSet
     ensures { result ≡ inserted set id }
 {
-    if id > 255 {
-        return set;
-    }
-    ids::insert(set, id as u8)
-}
-
-// Says the numbers of elements.
-fn say_elements<F: Field>(xs: &[F], said: &mut Vec<u32>) -> Result<(), AllocError>
-    ensures { OnOk result (said.new.items ≡ said.old.items ++ numbers F.ops F.finite xs.now) }
-{
-    for x in xs {
-        said.push(x.number())?;
-    }
-    Ok(())
-}
-
-// Says the epoch, the threshold and how many holders there are.
-fn say_circle<F: Field>(circle: &Circle<F>, said: &mut Vec<u32>) -> Result<(), AllocError>
-    ensures { OnOk result (said.new.items ≡ said.old.items ++ standing (facts circle.now)) }
-{
-    said.push(u32::from(circle.epoch()))?;
-    said.push(u32::from(circle.threshold()))?;
-    said.push(ids::size(circle.roll()))?;
-    Ok(())
-}
-
-// Deals a key with the elements that tokens name, and gives the table too.
-fn deal_new<F: Field>(
-    heap: Global,
-    threshold: u16,
-    places: u16,
-    ids: &[Token],
-    key: &[Token],
-    numbers: &[Token],
-) -> Result<(Result<Circle<F>, Denial>, Vec<F>), AllocError>
-    ensures { IfOk result (λ d. DealtNew F.ops F.finite F.points threshold places (values ids.now) (values key.now) (values numbers.now) (answered d.0) d.1.items) }
-{
-    let roll = set_of(ids);
-    let key: Vec<F> = elements_of(heap, key)?;
-    let numbers: Vec<F> = elements_of(heap, numbers)?;
-    let mut table: Vec<F> = zeros(heap, 32 * usize::from(places.min(32)))?;
-    let answer = deal(
-        roll,
-        threshold,
-        places,
-        key.as_slice(),
-        numbers.as_slice(),
-        table.as_mut_slice(),
-    );
-    Ok((answer, table))
-}
-
-// The shares of a holder, in new memory.
-fn show_new<F: Field>(
-    heap: Global,
-    circle: &Circle<F>,
-    id: u8,
-    table: &[F],
-) -> Result<(Result<(), Denial>, Vec<F>), AllocError>
-    ensures { IfOk result (λ d. ShownNew F.ops F.finite F.points (facts circle.now) id table.now d.0 d.1.items) }
-{
-    let mut shares: Vec<F> = zeros(heap, usize::from(circle.places()))?;
-    let answer = show(circle, id, table, shares.as_mut_slice());
-    Ok((answer, shares))
-}
-
-// Says an id, an epoch and shares.
-fn say_card<F: Field>(
-    id: u8,
-    epoch: u16,
-    shares: &[F],
-    said: &mut Vec<u32>,
-) -> Result<(), AllocError>
-    requires { said.old.items ≡ [] }
-    ensures { OnOk result (said.new.items ≡ id ∷ epoch ∷ numbers F.ops F.finite shares.now) }
-{
-    said.push(u32::from(id))?;
-    said.push(u32::from(epoch))?;
-    say_elements(shares, said)
-}
-
-// Shows a holder's card, with nothing said before.
-fn show_card<F: Field>(
-    heap: Global,
-    circle: &Circle<F>,
-    id: u8,
-    table: &[F],
-    said: &mut Vec<u32>,
-) -> Result<Answer, AllocError>
-    requires { said.old.items ≡ [] }
-    ensures { IfOk result (λ a. said_of a said.new.items ≡ show_said F.ops F.finite F.points (Some (facts circle.now)) table.now id) }
-{
-    let (answer, shares) = show_new(heap, circle, id, table)?;
-    match answer {
-        Ok(_) => {
-            say_card(id, circle.epoch(), shares.as_slice(), said)?;
-            Ok(Answer::Done)
-        }
-        Err(denial) => Ok(Answer::No(denial.number())),
+    match u8::try_from(id) {
+        Ok(id) => set.insert(id),
+        Err(_) => set,
     }
 }
 
-// The n elements from a place on.
-fn part_of<F: Field>(xs: &[F], from: usize, n: usize) -> &[F]
-    requires { from + n ≤ length xs.now }
-    ensures { result.now ≡ take n (drop from xs.now) }
+// The numbers of elements.
+fn numbers_of<F: Field>(heap: Global, xs: &[F]) -> Result<Vec<u32>, AllocError>
+    ensures { IfOk result (λ v. v.items ≡ numbers F.ops F.finite xs.now) }
 {
-    &xs[from..from + n]
+    xs.iter().map(|x| x.number()).collect(heap)
 }
 
-// The cards that tokens state, each after its slash: their shares are the elements at the same places.
+// The epoch, the threshold and how many holders there are.
+fn standing_of<F: Field>(heap: Global, circle: &Circle<F>) -> Result<Vec<u32>, AllocError>
+    ensures { IfOk result (λ v. v.items ≡ circle_standing (facts circle.now)) }
+{
+    let epoch = u32::from(circle.epoch());
+    let threshold = u32::from(circle.threshold());
+    Ok(vec![in heap; epoch, threshold, circle.roll().size()]?)
+}
+
+// The id, the epoch and the shares of a card.
+fn card_numbers<F: Field>(heap: Global, card: &Card<'_, F>) -> Result<Vec<u32>, AllocError>
+    ensures { IfOk result (λ v. v.items ≡ card.now.id ∷ card.now.epoch ∷ numbers F.ops F.finite card.now.shares.now) }
+{
+    let mut numbers = vec![in heap; u32::from(card.id), u32::from(card.epoch)]?;
+    numbers.extend_from_slice(numbers_of(heap, card.shares)?.as_slice())?;
+    Ok(numbers)
+}
+
+// The elements of a card's shares, and those after them: before the shares stand a slash, an id and an epoch.
+fn split_shares<F: Field>(xs: &[F], n: usize) -> (&[F], &[F])
+    requires { 3 + n ≤ length xs.now }
+    ensures shares { result.0.now ≡ take n (drop 3 xs.now) }
+    ensures left { result.1.now ≡ drop n (drop 3 xs.now) }
+{
+    xs[3..].split_at(n)
+}
+
+// The cards that tokens state, each after its slash: `xs` are the tokens' elements.
 fn cards_of<'a, F: Field>(
     heap: Global,
     tokens: &[Token],
@@ -194,70 +125,237 @@ fn cards_of<'a, F: Field>(
 {
     let mut all = Vec::new(heap);
     let mut left = tokens;
-    let mut at = 0;
+    let mut elements = xs;
     while let Some((card, rest)) = next_card(left) {
-        let from = at + 3;
-        let n = card.shares.len();
-        let shares = part_of(xs, from, n);
+        let (shares, others) = split_shares(elements, card.shares.len());
         all.push(Card {
             id: card.id,
             epoch: card.epoch,
             shares,
         })?;
         left = rest;
-        at = from + n;
+        elements = others;
     }
     Ok(all)
 }
 
-// The key that cards open, in new memory.
-fn open_new<F: Field>(
-    heap: Global,
-    circle: &Circle<F>,
-    cards: &[Card<'_, F>],
-) -> Result<(Result<(), Denial>, Vec<F>), AllocError>
-    ensures { IfOk result (λ d. OpenedNew F.ops F.finite F.points F.equality.same (facts circle.now) (faces cards.now) d.0 d.1.items) }
+// The desk after a round was to end, with its answer.
+fn after_end<F: Field>(
+    answer: Result<Circle<F>, (Round<F>, Receipt, Denial)>,
+    memory: Memory<F>,
+) -> (Desk<F>, Result<(), Refusal>)
+    requires { vec_len memory.table ≡ 32 * places_of (ended answer) }
+    ensures kept { kept result.0 ≡ ended_kept (ended answer) memory.table.items memory.tally.items }
+    ensures answer { result.1 ≡ ended_answer (ended answer) }
 {
-    let mut key: Vec<F> = zeros(heap, usize::from(circle.places()))?;
-    let answer = open(circle, cards, key.as_mut_slice());
-    Ok((answer, key))
+    match answer {
+        Ok(circle) => (Desk::Settled(Settled { circle, memory }), Ok(())),
+        Err((round, receipt, denial)) => (
+            Desk::Running(Running {
+                round,
+                receipt,
+                memory,
+            }),
+            Err(denial.into()),
+        ),
+    }
 }
 
-// Opens the cards that tokens state, with nothing said before.
-fn open_cards<F: Field>(
-    heap: Global,
-    circle: &Circle<F>,
-    tokens: &[Token],
-    said: &mut Vec<u32>,
-) -> Result<Answer, AllocError>
-    requires blank { said.old.items ≡ [] }
-    requires stand { open_stands F.finite.size (sections tokens.now) ≡ true }
-    ensures { IfOk result (λ a. said_of a said.new.items ≡ open_said F.ops F.finite F.points F.equality.same (Some (facts circle.now)) (map stated (cards tokens.now))) }
-{
-    let xs: Vec<F> = elements_of(heap, tokens)?;
-    let cards = cards_of(heap, tokens, xs.as_slice())?;
-    let (answer, key) = open_new(heap, circle, cards.as_slice())?;
-    match answer {
-        Ok(_) => {
-            say_elements(key.as_slice(), said)?;
-            Ok(Answer::Done)
+impl<F: Field> Memory<F> {
+    // Memory for so many places.
+    fn new(heap: Global, places: u16) -> Result<Memory<F>, AllocError>
+        ensures table { IfOk result (λ m. m.table.items ≡ blank F.ops F.finite F.points places) }
+        ensures tally { IfOk result (λ m. m.tally.items ≡ blank F.ops F.finite F.points places) }
+        ensures long { IfOk result (λ m. vec_len m.table ≡ 32 * min places 32) }
+    {
+        let len = 32 * usize::from(places.min(32));
+        let table = zeros(heap, len)?;
+        let tally = zeros(heap, len)?;
+        Ok(Memory { table, tally })
+    }
+
+    // Begins a round.
+    fn begin(
+        &mut self,
+        circle: Circle<F>,
+        kind: Kind,
+    ) -> Result<(Round<F>, Receipt), (Circle<F>, Denial)>
+        ensures done { BegunIn F.ops F.finite F.points (facts circle) kind self.old.tally.items (begun result) self.new.tally.items }
+        ensures table { self.new.table ≡ self.old.table }
+    {
+        begin(circle, kind, self.tally.as_mut_slice())
+    }
+
+    // Finishes a round.
+    fn finish(
+        &mut self,
+        round: Round<F>,
+        receipt: Receipt,
+    ) -> Result<Circle<F>, (Round<F>, Receipt, Denial)>
+        ensures done { FinishedIn F.ops F.finite F.points (round_facts round) self.old.table.items self.old.tally.items (ended result) self.new.table.items self.new.tally.items }
+        ensures long { vec_len self.new.table ≡ vec_len self.old.table }
+    {
+        round.finish(
+            receipt,
+            self.table.as_mut_slice(),
+            self.tally.as_mut_slice(),
+        )
+    }
+
+    // Abandons a round.
+    fn abandon(
+        &mut self,
+        round: Round<F>,
+        receipt: Receipt,
+    ) -> Result<Circle<F>, (Round<F>, Receipt, Denial)>
+        ensures done { AbandonedIn F.ops F.finite F.points (round_facts round) self.old.tally.items (ended result) self.new.tally.items }
+        ensures table { self.new.table ≡ self.old.table }
+    {
+        round.abandon(receipt, self.tally.as_mut_slice())
+    }
+}
+
+impl<F: Field> Settled<F> {
+    // Deals a key with the elements that tokens name.
+    fn deal(
+        heap: Global,
+        threshold: u16,
+        places: u16,
+        ids: &[Token],
+        key: &[Token],
+        numbers: &[Token],
+    ) -> Result<Settled<F>, Failure>
+        ensures { IfAnswered result (λ a. settled_of a ≡ deal_move F.ops F.finite F.points none threshold places (values ids.now) (values key.now) (values numbers.now)) }
+    {
+        let key: Vec<F> = elements_of(heap, key)?;
+        let numbers: Vec<F> = elements_of(heap, numbers)?;
+        let mut memory = Memory::new(heap, places)?;
+        let circle = deal(
+            set_of(ids),
+            threshold,
+            places,
+            key.as_slice(),
+            numbers.as_slice(),
+            memory.table.as_mut_slice(),
+        )?;
+        Ok(Settled { circle, memory })
+    }
+
+    // Begins a round.
+    fn begin(self, kind: Kind) -> (Desk<F>, Result<(), Refusal>)
+        ensures kept { kept result.0 ≡ kept_after (begin_move F.ops F.finite F.points (settled (facts self.circle)) kind (settled_kept self)) (settled_kept self) }
+        ensures answer { result.1 ≡ answer_of (begin_move F.ops F.finite F.points (settled (facts self.circle)) kind (settled_kept self)) }
+    {
+        let Settled { circle, mut memory } = self;
+        match memory.begin(circle, kind) {
+            Ok((round, receipt)) => (
+                Desk::Running(Running {
+                    round,
+                    receipt,
+                    memory,
+                }),
+                Ok(()),
+            ),
+            Err((circle, denial)) => (
+                Desk::Settled(Settled { circle, memory }),
+                Err(denial.into()),
+            ),
         }
-        Err(denial) => Ok(Answer::No(denial.number())),
+    }
+
+    // The shares of a holder.
+    fn shares_of(&self, heap: Global, id: u8) -> Result<Vec<F>, Failure>
+        ensures { IfAnswered result (λ a. items_of a ≡ done_with (shares_of F.ops self.now.memory.table.items id self.now.circle.places) (show_answer F.points.largest (facts self.now.circle) id (vec_len self.now.memory.table) self.now.circle.places)) }
+    {
+        let mut shares = zeros(heap, usize::from(self.circle.places()))?;
+        show(
+            &self.circle,
+            id,
+            self.memory.table.as_slice(),
+            shares.as_mut_slice(),
+        )?;
+        Ok(shares)
+    }
+
+    // Shows a holder's card.
+    fn show(&self, heap: Global, id: u8) -> Result<Vec<u32>, Failure>
+        ensures { IfAnswered result (λ a. items_of a ≡ show_said F.ops F.finite F.points (settled (facts self.now.circle)) self.now.memory.table.items id) }
+    {
+        let shares = self.shares_of(heap, id)?;
+        let card = Card {
+            id,
+            epoch: self.circle.epoch(),
+            shares: shares.as_slice(),
+        };
+        Ok(card_numbers(heap, &card)?)
+    }
+
+    // The key that cards open.
+    fn key_of(&self, heap: Global, cards: &[Card<'_, F>]) -> Result<Vec<F>, Failure>
+        ensures { IfAnswered result (λ a. items_of a ≡ done_with (key_of F.ops F.finite F.points (facts self.now.circle) (faces cards.now)) (open_answer F.ops F.points.at F.equality.same F.points.largest (facts self.now.circle) (faces cards.now) self.now.circle.places)) }
+    {
+        let mut key = zeros(heap, usize::from(self.circle.places()))?;
+        open(&self.circle, cards, key.as_mut_slice())?;
+        Ok(key)
+    }
+
+    // Opens the key from the cards that tokens state.
+    fn open(&self, heap: Global, tokens: &[Token]) -> Result<Vec<u32>, Failure>
+        requires { open_stands F.finite.size (sections tokens.now) ≡ true }
+        ensures { IfAnswered result (λ a. items_of a ≡ open_said F.ops F.finite F.points F.equality.same (settled (facts self.now.circle)) (map stated (cards tokens.now))) }
+    {
+        let xs: Vec<F> = elements_of(heap, tokens)?;
+        let cards = cards_of(heap, tokens, xs.as_slice())?;
+        let key = self.key_of(heap, cards.as_slice())?;
+        Ok(numbers_of(heap, key.as_slice())?)
+    }
+}
+
+impl<F: Field> Running<F> {
+    // Takes a contribution.
+    fn contribute(&mut self, id: u8, numbers: &[F]) -> Result<(), Denial>
+        ensures done { ContributedIn F.ops F.finite F.points (round_facts self.old.round) id numbers.now self.old.memory.table.items self.old.memory.tally.items result (round_facts self.new.round) self.new.memory.tally.items }
+        ensures table { self.new.memory.table ≡ self.old.memory.table }
+    {
+        self.round.contribute(
+            id,
+            numbers,
+            self.memory.table.as_slice(),
+            self.memory.tally.as_mut_slice(),
+        )
+    }
+
+    // Finishes the round.
+    fn finish(self) -> (Desk<F>, Result<(), Refusal>)
+        ensures kept { kept result.0 ≡ kept_after (finish_move F.ops F.finite F.points (running (round_facts self.round)) (running_kept self)) (running_kept self) }
+        ensures answer { result.1 ≡ answer_of (finish_move F.ops F.finite F.points (running (round_facts self.round)) (running_kept self)) }
+    {
+        let Running {
+            round,
+            receipt,
+            mut memory,
+        } = self;
+        let answer = memory.finish(round, receipt);
+        after_end(answer, memory)
+    }
+
+    // Abandons the round.
+    fn abandon(self) -> (Desk<F>, Result<(), Refusal>)
+        ensures kept { kept result.0 ≡ kept_after (abandon_move F.ops F.finite F.points (running (round_facts self.round)) (running_kept self)) (running_kept self) }
+        ensures answer { result.1 ≡ answer_of (abandon_move F.ops F.finite F.points (running (round_facts self.round)) (running_kept self)) }
+    {
+        let Running {
+            round,
+            receipt,
+            mut memory,
+        } = self;
+        let answer = memory.abandon(round, receipt);
+        after_end(answer, memory)
     }
 }
 
 impl<F: Field> Desk<F> {
-    // A desk with no circle.
-    pub(crate) fn new(heap: Global) -> Self
-        ensures { kept result ≡ nothing }
-    {
-        Desk {
-            circle: None,
-            table: Vec::new(heap),
-        }
-    }
-
-    // `D`: deals a key, where no circle exists.
+    // `D`: deals a key, where there is no circle.
     pub(crate) fn deal(
         &mut self,
         heap: Global,
@@ -266,57 +364,123 @@ impl<F: Field> Desk<F> {
         ids: &[Token],
         key: &[Token],
         numbers: &[Token],
-        said: &mut Vec<u32>,
-    ) -> Result<Answer, AllocError>
-        ensures said { IfOk result (λ a. said_of a said.new.items ≡ deal_said F.ops F.finite F.points (kept self.old).circle threshold places (values ids.now) (values key.now) (values numbers.now)) }
-        ensures kept { OnOk result (kept self.new ≡ deal_kept F.ops F.finite F.points (kept self.old) (kept self.old).circle threshold places (values ids.now) (values key.now) (values numbers.now)) }
+    ) -> Result<(), Failure>
+        ensures kept { IfAnswered result (λ _. kept self.new ≡ kept_after (deal_move F.ops F.finite F.points (kept self.old).holding threshold places (values ids.now) (values key.now) (values numbers.now)) (kept self.old)) }
+        ensures answer { IfAnswered result (λ a. a ≡ answer_of (deal_move F.ops F.finite F.points (kept self.old).holding threshold places (values ids.now) (values key.now) (values numbers.now))) }
     {
-        said.clear();
-        if self.circle.is_some() {
-            return Ok(Answer::No(NOT_ALLOWED));
-        }
-        let (answer, table) = deal_new(heap, threshold, places, ids, key, numbers)?;
-        match answer {
-            Ok(circle) => {
-                say_circle(&circle, said)?;
-                self.circle = Some(circle);
-                self.table = table;
-                Ok(Answer::Done)
+        match self {
+            Desk::Empty => {
+                let settled = Settled::deal(heap, threshold, places, ids, key, numbers)?;
+                *self = Desk::Settled(settled);
+                Ok(())
             }
-            Err(denial) => Ok(Answer::No(denial.number())),
+            _ => Err(Refusal::NotAllowed.into()),
+        }
+    }
+
+    // `R`, `X`, `T` and `A`: begins a round, where there is a circle.
+    pub(crate) fn begin(&mut self, kind: Kind) -> Result<(), Refusal>
+        ensures kept { kept self.new ≡ kept_after (begin_move F.ops F.finite F.points (kept self.old).holding kind (kept self.old)) (kept self.old) }
+        ensures answer { result ≡ answer_of (begin_move F.ops F.finite F.points (kept self.old).holding kind (kept self.old)) }
+    {
+        match replace(self, Desk::Empty) {
+            Desk::Settled(settled) => {
+                let (desk, answer) = settled.begin(kind);
+                *self = desk;
+                answer
+            }
+            other => {
+                *self = other;
+                Err(Refusal::NotAllowed)
+            }
+        }
+    }
+
+    // `C`: contributes to the round.
+    pub(crate) fn contribute(
+        &mut self,
+        heap: Global,
+        id: u8,
+        numbers: &[Token],
+    ) -> Result<(), Failure>
+        ensures kept { IfAnswered result (λ _. kept self.new ≡ kept_after (contribute_move F.ops F.finite F.points (kept self.old).holding id (values numbers.now) (kept self.old)) (kept self.old)) }
+        ensures answer { IfAnswered result (λ a. a ≡ answer_of (contribute_move F.ops F.finite F.points (kept self.old).holding id (values numbers.now) (kept self.old))) }
+    {
+        match self {
+            Desk::Running(running) => {
+                let xs: Vec<F> = elements_of(heap, numbers)?;
+                running.contribute(id, xs.as_slice())?;
+                Ok(())
+            }
+            _ => Err(Refusal::NotAllowed.into()),
+        }
+    }
+
+    // `F`: finishes the round.
+    pub(crate) fn finish(&mut self) -> Result<(), Refusal>
+        ensures kept { kept self.new ≡ kept_after (finish_move F.ops F.finite F.points (kept self.old).holding (kept self.old)) (kept self.old) }
+        ensures answer { result ≡ answer_of (finish_move F.ops F.finite F.points (kept self.old).holding (kept self.old)) }
+    {
+        match replace(self, Desk::Empty) {
+            Desk::Running(running) => {
+                let (desk, answer) = running.finish();
+                *self = desk;
+                answer
+            }
+            other => {
+                *self = other;
+                Err(Refusal::NotAllowed)
+            }
+        }
+    }
+
+    // `Q`: abandons the round.
+    pub(crate) fn abandon(&mut self) -> Result<(), Refusal>
+        ensures kept { kept self.new ≡ kept_after (abandon_move F.ops F.finite F.points (kept self.old).holding (kept self.old)) (kept self.old) }
+        ensures answer { result ≡ answer_of (abandon_move F.ops F.finite F.points (kept self.old).holding (kept self.old)) }
+    {
+        match replace(self, Desk::Empty) {
+            Desk::Running(running) => {
+                let (desk, answer) = running.abandon();
+                *self = desk;
+                answer
+            }
+            other => {
+                *self = other;
+                Err(Refusal::NotAllowed)
+            }
+        }
+    }
+
+    // How the circle stands: the epoch, the threshold and how many holders there are.
+    pub(crate) fn standing(&self, heap: Global) -> Result<Vec<u32>, AllocError>
+        ensures { IfOk result (λ v. v.items ≡ standing (kept self.now).holding) }
+    {
+        match self {
+            Desk::Empty => Ok(Vec::new(heap)),
+            Desk::Settled(settled) => standing_of(heap, &settled.circle),
+            Desk::Running(running) => standing_of(heap, running.round.circle()),
         }
     }
 
     // `K`: shows a holder's card.
-    pub(crate) fn show(
-        &self,
-        heap: Global,
-        id: u8,
-        said: &mut Vec<u32>,
-    ) -> Result<Answer, AllocError>
-        ensures { IfOk result (λ a. said_of a said.new.items ≡ show_said F.ops F.finite F.points (kept self.now).circle (kept self.now).table id) }
+    pub(crate) fn show(&self, heap: Global, id: u8) -> Result<Vec<u32>, Failure>
+        ensures { IfAnswered result (λ a. items_of a ≡ show_said F.ops F.finite F.points (kept self.now).holding (kept self.now).table id) }
     {
-        said.clear();
-        match &self.circle {
-            None => Ok(Answer::No(NOT_ALLOWED)),
-            Some(circle) => show_card(heap, circle, id, self.table.as_slice(), said),
+        match self {
+            Desk::Settled(settled) => settled.show(heap, id),
+            _ => Err(Refusal::NotAllowed.into()),
         }
     }
 
     // `O`: opens the key from the cards that tokens state.
-    pub(crate) fn open(
-        &self,
-        heap: Global,
-        tokens: &[Token],
-        said: &mut Vec<u32>,
-    ) -> Result<Answer, AllocError>
+    pub(crate) fn open(&self, heap: Global, tokens: &[Token]) -> Result<Vec<u32>, Failure>
         requires { open_stands F.finite.size (sections tokens.now) ≡ true }
-        ensures { IfOk result (λ a. said_of a said.new.items ≡ open_said F.ops F.finite F.points F.equality.same (kept self.now).circle (map stated (cards tokens.now))) }
+        ensures { IfAnswered result (λ a. items_of a ≡ open_said F.ops F.finite F.points F.equality.same (kept self.now).holding (map stated (cards tokens.now))) }
     {
-        said.clear();
-        match &self.circle {
-            None => Ok(Answer::No(NOT_ALLOWED)),
-            Some(circle) => open_cards(heap, circle, tokens, said),
+        match self {
+            Desk::Settled(settled) => settled.open(heap, tokens),
+            _ => Err(Refusal::NotAllowed.into()),
         }
     }
 }

@@ -1,113 +1,164 @@
 //! Answering lines.
 
-ghost use Rattle.std.specs.Prelude.{◌≡◌, true, [], IfOk, OnOk};
-ghost use Rattle.station.specs.Desk.{kept, said_of};
-ghost use Rattle.station.specs.Script.{meaning, step_stands};
-ghost use Rattle.station.specs.Station.{state, unnamed, fresh, element_size, desk_said, desk_kept, step_said, step_state, line_said, line_state};
+ghost use Rattle.std.specs.Prelude.{◌≡◌, ◌^◌, ◌<◌, true, Err};
+ghost use Rattle.std.specs.Option.{option_map_or};
+ghost use Rattle.script.specs.Steps.{form, meaning, step_stands};
+ghost use Rattle.station.specs.Desk.{answer_of, items_of, kept};
+ghost use Rattle.station.specs.Refusal.{IfAnswered};
+ghost use Rattle.station.specs.Station.{state, desks_state, unnamed, fresh, move, desk_said, desk_kept, line_said, line_state, StaysDealing};
 
-use super::Station;
-use crate::desk::{Answer, Desk};
-use crate::grammar::Token;
-use crate::script::{FieldName, Step, parse};
+use super::{Desks, Station};
+use crate::desk::Desk;
+use crate::desk::steps::set_of;
+use crate::refusal::{Failure, Refusal};
+use circle::kind::Kind;
 use fields::field::Field;
-use fields::modulus::{Z13, Z41, Z257};
-use std::alloc::{AllocError, Global};
+use script::grammar::Token;
+use script::steps::{FieldName, Step, parse};
+use std::alloc::Global;
 
-/// A line that is not of the form, and a step that the present state does not allow.
-pub const NOT_OF_FORM: u8 = 1;
-
-const NOT_ALLOWED: u8 = 2;
-
-// Does a step at the desk of a field that is named.
-fn step_at<F: Field>(
-    heap: Global,
-    desk: &mut Desk<F>,
-    step: Step<'_>,
-    said: &mut Vec<u32>,
-) -> Result<Answer, AllocError>
-    requires { step_stands F.finite.size step ≡ true }
-    ensures said { IfOk result (λ a. said_of a said.new.items ≡ desk_said F.ops F.finite F.points F.equality.same (kept desk.old) (meaning step.entry)) }
-    ensures kept { OnOk result (kept desk.new ≡ desk_kept F.ops F.finite F.points F.equality.same (kept desk.old) (meaning step.entry)) }
+// Does a step that changes what the desk keeps; showing and opening change nothing, and `step_at` does them itself.
+fn perform<F: Field>(heap: Global, desk: &mut Desk<F>, step: Step<'_>) -> Result<(), Failure>
+    ensures kept { IfAnswered result (λ _. kept desk.new ≡ desk_kept F.ops F.finite F.points (kept desk.old) (meaning step.entry)) }
+    ensures answer { IfAnswered result (λ a. a ≡ answer_of (move F.ops F.finite F.points (kept desk.old) (meaning step.entry))) }
 {
     match step {
-        Step::Name(_) => Ok(Answer::No(NOT_ALLOWED)),
+        Step::Name(_) => Err(Refusal::NotAllowed.into()),
         Step::Deal {
             threshold,
             places,
             ids,
             key,
             numbers,
-        } => desk.deal(heap, threshold, places, ids, key, numbers, said),
-        Step::Show(id) => desk.show(heap, id, said),
-        Step::Open(tokens) => desk.open(heap, tokens, said),
+        } => desk.deal(heap, threshold, places, ids, key, numbers),
+        Step::Refresh => Ok(desk.begin(Kind::Refresh)?),
+        Step::Dismiss(id) => Ok(desk.begin(Kind::Dismissal { leaver: id })?),
+        Step::Change { threshold, helpers } => {
+            let helpers = set_of(helpers);
+            Ok(desk.begin(Kind::Change { threshold, helpers })?)
+        }
+        Step::Admit { id, helpers } => {
+            let helpers = set_of(helpers);
+            Ok(desk.begin(Kind::Admission {
+                newcomer: id,
+                helpers,
+            })?)
+        }
+        Step::Contribute { id, numbers } => desk.contribute(heap, id, numbers),
+        Step::Finish => Ok(desk.finish()?),
+        Step::Abandon => Ok(desk.abandon()?),
+        Step::Show(_) | Step::Open(_) => Ok(()),
     }
 }
 
-impl Station {
-    // Elements are below this in the present state.
-    fn size(&self) -> u32
-        ensures { result ≡ element_size (state self.now) }
-    {
-        match self {
-            Station::Unnamed => 65536,
-            Station::At13(_) => Z13::largest_number() + 1,
-            Station::At41(_) => Z41::largest_number() + 1,
-            Station::At257(_) => Z257::largest_number() + 1,
+// Does a step at the desk of a field that is named.
+fn step_at<F: Field>(heap: Global, desk: &mut Desk<F>, step: Step<'_>) -> Result<Vec<u32>, Failure>
+    requires { step_stands F.finite.size step ≡ true }
+    ensures said { IfAnswered result (λ a. items_of a ≡ desk_said F.ops F.finite F.points F.equality.same (kept desk.old) (meaning step.entry)) }
+    ensures kept { IfAnswered result (λ _. kept desk.new ≡ desk_kept F.ops F.finite F.points (kept desk.old) (meaning step.entry)) }
+{
+    match step {
+        Step::Show(id) => desk.show(heap, id),
+        Step::Open(tokens) => desk.open(heap, tokens),
+        _ => {
+            perform(heap, desk, step)?;
+            Ok(desk.standing(heap)?)
         }
     }
+}
 
-    // The station after a field is named.
-    fn named(heap: Global, name: FieldName) -> Station
-        ensures { state result ≡ fresh name }
+// Without the rounds no line opens a round: shown once.
+fn dealing_shown()
+    ensures { StaysDealing }
+{}
+
+// How many elements the field has. That a u32 holds it is asked of the field's type, so no value can carry it.
+fn size<F: Field>() -> u32
+    requires { F.finite.size < 2 ^ 32 }
+    ensures { result ≡ F.finite.size }
+{
+    F::largest_number() + 1
+}
+
+// Answers a line at the desk of a field that is named.
+fn answer_at<F: Field, const ROUNDS: bool>(
+    heap: Global,
+    desk: &mut Desk<F>,
+    line: &[u8],
+    room: &mut Vec<Token>,
+) -> Result<Vec<u32>, Failure>
+    requires { F.finite.size < 2 ^ 32 }
+    ensures said { IfAnswered result (λ a. items_of a ≡ option_map_or (desk_said F.ops F.finite F.points F.equality.same (kept desk.old)) (form ROUNDS F.finite.size line.now) (Err Refusal.NotOfForm)) }
+    ensures kept { IfAnswered result (λ _. kept desk.new ≡ option_map_or (desk_kept F.ops F.finite F.points (kept desk.old)) (form ROUNDS F.finite.size line.now) (kept desk.old)) }
+{
+    match parse::<ROUNDS>(size::<F>(), line, room)? {
+        Some(step) => step_at(heap, desk, step),
+        None => Err(Refusal::NotOfForm.into()),
+    }
+}
+
+impl Desks {
+    // The desk of a field that is named.
+    fn named(name: FieldName) -> Desks
+        ensures { desks_state result ≡ fresh name }
     {
         match name {
-            FieldName::Z13 => Station::At13(Desk::new(heap)),
-            FieldName::Z41 => Station::At41(Desk::new(heap)),
-            FieldName::Z257 => Station::At257(Desk::new(heap)),
+            FieldName::Z13 => Desks::At13(Desk::Empty),
+            FieldName::Z41 => Desks::At41(Desk::Empty),
+            FieldName::Z257 => Desks::At257(Desk::Empty),
+            FieldName::Byte => Desks::AtByte(Desk::Empty),
         }
     }
 
-    // Does a step.
-    fn step(
+    // Answers a line, of a script with the rounds or without.
+    fn answer<const ROUNDS: bool>(
         &mut self,
         heap: Global,
-        step: Step<'_>,
-        said: &mut Vec<u32>,
-    ) -> Result<Answer, AllocError>
-        requires blank { said.old.items ≡ [] }
-        requires stands { step_stands (element_size (state self.old)) step ≡ true }
-        ensures said { IfOk result (λ a. said_of a said.new.items ≡ step_said (state self.old) (meaning step.entry)) }
-        ensures state { OnOk result (state self.new ≡ step_state (state self.old) (meaning step.entry)) }
+        line: &[u8],
+        room: &mut Vec<Token>,
+    ) -> Result<Vec<u32>, Failure>
+        ensures said { IfAnswered result (λ a. items_of a ≡ line_said ROUNDS (desks_state self.old) line.now) }
+        ensures state { IfAnswered result (λ _. desks_state self.new ≡ line_state ROUNDS (desks_state self.old) line.now) }
     {
         match self {
-            Station::Unnamed => match step {
-                Step::Name(name) => {
-                    *self = Station::named(heap, name);
-                    Ok(Answer::Done)
+            Desks::Unnamed => match parse::<ROUNDS>(65536, line, room)? {
+                Some(Step::Name(name)) => {
+                    *self = Desks::named(name);
+                    Ok(Vec::new(heap))
                 }
-                _ => Ok(Answer::No(NOT_ALLOWED)),
+                Some(_) => Err(Refusal::NotAllowed.into()),
+                None => Err(Refusal::NotOfForm.into()),
             },
-            Station::At13(desk) => step_at(heap, desk, step, said),
-            Station::At41(desk) => step_at(heap, desk, step, said),
-            Station::At257(desk) => step_at(heap, desk, step, said),
+            Desks::At13(desk) => answer_at::<_, ROUNDS>(heap, desk, line, room),
+            Desks::At41(desk) => answer_at::<_, ROUNDS>(heap, desk, line, room),
+            Desks::At257(desk) => answer_at::<_, ROUNDS>(heap, desk, line, room),
+            Desks::AtByte(desk) => answer_at::<_, ROUNDS>(heap, desk, line, room),
+        }
+    }
+}
+
+impl<const ROUNDS: bool> Station<ROUNDS> {
+    /// No field is named yet.
+    pub fn new() -> Self
+        ensures { state result ≡ unnamed }
+    {
+        Station {
+            desks: Desks::Unnamed,
         }
     }
 
-    /// Answers a line without its newline. What is said after `ok` is put into `said`; `room` is for the line's tokens.
+    /// Answers a line without its newline, with the numbers that are said after `ok`. `room` is for the line's tokens.
     pub fn answer(
         &mut self,
         heap: Global,
         line: &[u8],
         room: &mut Vec<Token>,
-        said: &mut Vec<u32>,
-    ) -> Result<Answer, AllocError>
-        ensures said { IfOk result (λ a. said_of a said.new.items ≡ line_said (state self.old) line.now) }
-        ensures state { OnOk result (state self.new ≡ line_state (state self.old) line.now) }
+    ) -> Result<Vec<u32>, Failure>
+        ensures said { IfAnswered result (λ a. items_of a ≡ line_said ROUNDS (state self.old) line.now) }
+        ensures state { IfAnswered result (λ _. state self.new ≡ line_state ROUNDS (state self.old) line.now) }
+        ensures dealing { StaysDealing }
     {
-        said.clear();
-        match parse(self.size(), line, room)? {
-            Some(step) => self.step(heap, step, said),
-            None => Ok(Answer::No(NOT_OF_FORM)),
-        }
+        dealing_shown();
+        self.desks.answer::<ROUNDS>(heap, line, room)
     }
 }

@@ -1,48 +1,28 @@
-use Rattle.std.proofs.Common.{sym, ◌∙◌, arith}
-use Rattle.std.proofs.lemmas.List.{length-map}
+use Rattle.std.proofs.Common.{◌≡◌, true, sym, ◌∙◌, rules, tests}
+use Rattle.std.proofs.lemmas.List.Folds.{list_all-map}
+use Rattle.std.proofs.lemmas.Iterator.{YieldsList-from_slice}
+use Rattle.std.proofs.lemmas.Iterator.Adapters.{serves_from_places}
+use Rattle.std.proofs.lemmas.Iterator.Search.{all_from_yields_List}
 use Rattle.circle.specs.Open.{face, faces, id_known, as_long, lies}
-use Rattle.circle.proofs.Tests.{each_read, each_fails, each_goes_on, each_ends}
+use Rattle.circle.proofs.Tests.{each_read}
 use Rattle.circle.proofs.open.Cards.{face_within, face_read}
 use Rattle.circle.proofs.open.all_agree.Goals as goal
 
-pub agrees-requires : goal.agrees-requires
-agrees-requires g c =
-    let later = c.args.later.now in
-    let i = c.loop-card.card-index in
-    let card = c.card-item.result in
-    let within = face_within later i c.loop-card-test.true in
-    let read = face_read later i c.loop-card-test.true card c.card-item.is in
-    record {
-      fixing = c.requires.fixing;
-      own = each_read (id_known g.F.Field.points.largest) (faces later) i (face card) c.requires.own within read;
-      long = each_read (as_long c.args.places) (faces later) i (face card) c.requires.long within read;
-    }
-
-pub returns-then-not-agrees : goal.returns-then-not-agrees
-returns-then-not-agrees g c =
-    let m = g.F.Field in
-    let later = c.args.later.now in
-    let i = c.loop-card.card-index in
-    let card = c.card-item.result in
-    let taken = c.loop-card-test.true in
-    each_fails (lies m.ops m.points.at m.equality.same c.args.places (faces c.args.first.now)) (faces later) i (face card)
-    (face_within later i taken) (face_read later i taken card c.card-item.is)
-    (sym c.agrees.ensures ∙ c.if-not-agrees.true) c.loop-card.invariant
-
-pub loop-card-preserved : goal.loop-card-preserved
-loop-card-preserved g c =
-    let m = g.F.Field in
-    let later = c.args.later.now in
-    let i = c.loop-card.card-index in
-    let card = c.card-item.result in
-    let taken = c.loop-card-test.true in
-    each_goes_on (lies m.ops m.points.at m.equality.same c.args.places (faces c.args.first.now)) (faces later) i (face card)
-    (face_within later i taken) (face_read later i taken card c.card-item.is)
-    (sym c.agrees.ensures ∙ c.if-not-agrees.false) c.loop-card.invariant
+pub all-requires-clause-callable : goal.all-requires-clause-callable
+all-requires-clause-callable g c =
+    let cards = c.args.cards.now in
+    serves_from_places (YieldsList-from_slice cards (cc)) (λ x q k. search rules)
+    (λ x k less read.
+    let within = face_within cards k less in
+    let is = face_read cards k less x.now read in
+    let own : id_known g.F.Field.points.largest (face x.now) ≡ true = each_read (id_known g.F.Field.points.largest) (faces cards) k (face x.now) c.requires.own within is in
+    let long : as_long c.args.basis.now.places (face x.now) ≡ true = each_read (as_long c.args.basis.now.places) (faces cards) k (face x.now) c.requires.long within is in
+    search rules)
 
 pub returns : goal.returns
 returns g c =
     let m = g.F.Field in
-    let later = c.args.later.now in
-    each_ends (lies m.ops m.points.at m.equality.same c.args.places (faces c.args.first.now)) (faces later) c.loop-card.card-index
-    (omega (arith, length-map later (λ x. face x))) c.loop-card.invariant
+    let basis = c.args.basis.now in
+    let test = lies m.ops m.points.at m.equality.same basis.places (faces basis.cards.now) in
+    all_from_yields_List (λ x. test (face x)) _ _ _ c.all.ensures.ran (YieldsList-from_slice c.args.cards.now (cc)) (λ x b q k. search (rules, tests))
+    ∙ sym (list_all-map test face c.args.cards.now)

@@ -1,18 +1,13 @@
 -- A helper's portions, and the part that each id is given. Assumes nothing.
-use Rattle.std.proofs.Common.{◌≡◌, ℕ, zero, suc, ◌+◌, ◌-◌, ◌^◌, ◌<◌, ◌≤◌, true, false, ◌≢◌, List, [], ◌∷◌, length, get_or, drop, Some, sym, refl, ◌∙◌, inl, inr, arith}
+use Rattle.std.proofs.Common.{◌≡◌, ℕ, zero, suc, ◌^◌, ◌<◌, true, false, ◌≢◌, List, [], ◌∷◌, get_or, Some, sym, refl, ◌∙◌, inl, inr, arith}
 use Rattle.std.specs.List.{slice_get}
-use Rattle.std.proofs.lemmas.List.{at_drop_more}
 use Rattle.std.proofs.lemmas.Bool.{cond-true, cond-false, eq-eqb, ne_eqb, both_ways}
 use Rattle.fields.specs.Field.{Ops}
 use Rattle.circle.specs.Ids.{member, members, rank}
 use Rattle.circle.specs.Lists.{In, Distinct}
-use Rattle.circle.specs.Polynomial.{sum}
 use Rattle.circle.proofs.Lists.{all-at}
 use Rattle.circle.proofs.ids.Laws.{in_members, members_distinct, member_rank}
-use Rattle.circle.specs.declared.kind.Kind.{Kind}
-use Rattle.circle.specs.declared.kind.Kind.TheVariants.{Refresh, Dismissal, Change, Admission}
-use Rattle.circle.specs.Contribute.{portion, part}
-use Rattle.circle.specs.ContributeParts.{given, gift}
+use Rattle.circle.specs.Contribute.{portion}
 
 nth_in : {A : Type 0} (xs : List A) (k : ℕ) (x : A) → slice_get xs k ≡ Some x → In x xs
 nth_in [] k x at = let z : ◌≡◌ {A = ℕ} 0 1 = cc in absurd (omega arith)
@@ -40,18 +35,3 @@ module _ {K : Type 0} (F : Ops K) (at : ℕ → K) where
 
   pub portion_none : (set h : ℕ) (xs : List K) → member set h ≡ false → portion F at (members set) xs h ≡ F.zero
   portion_none set h xs out = portion_other (members set) xs h (λ m. both_ways (member set h) out (in_members set h m).1)
-
-  -- what is given in a round of each kind is the part
-  pub given_part : (k : Kind) (roll i : ℕ) (share : K) (numbers : List K) (h : ℕ)
-      → given F at (gift F at k roll i) share numbers h ≡ part F at k roll i share numbers h
-  given_part Refresh roll i share numbers h = refl
-  given_part (Dismissal leaver) roll i share numbers h = refl
-  given_part (Change threshold helpers) roll i share numbers h = refl
-  given_part (Admission newcomer helpers) roll i share numbers h = refl
-
--- one number more, downwards
-pub sum_more : {K : Type 0} (F : Ops K) (xs : List K) (i : ℕ) (x : K) → 0 < i → i ≤ length xs → x ≡ get_or xs (i - 1) x
-    → sum F (drop (i - 1) xs) ≡ F.add x (sum F (drop i xs))
-sum_more F xs i x some within read =
-    let up : i - 1 + 1 ≡ i = omega arith in
-    at_drop_more (sum F) xs (i - 1) x (omega arith) ∙ cc

@@ -1,6 +1,5 @@
-use Rattle.std.proofs.Common.{◌≡◌}
-use Rattle.circle.proofs.table.Grids.{filled}
+use Rattle.std.proofs.Common.{◌≡◌, ℕ, ◌<◌, get_or}
 use Rattle.circle.proofs.table.clear.Given as goal
 
-abbrev pub invariant-loop-k : goal.invariant-loop-k
-invariant-loop-k g l = l.xs ≡ filled (λ _. g.F.Field.ops.zero) l.k l.initial.xs
+abbrev pub invariant-loop-x : goal.invariant-loop-x
+invariant-loop-x g l = let z = g.F.Field.ops.zero in (k : ℕ) → k < l.x-index → get_or l.xs k z ≡ z

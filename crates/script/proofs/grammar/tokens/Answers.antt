@@ -1,31 +1,44 @@
-use Rattle.std.proofs.Common.{vec_items, ap, ◌∙◌}
-use Rattle.script.specs.Grammar.{line_tokens}
-use Rattle.script.proofs.grammar.Laws.{tokens_start, tokens_end, tokens_fail, tokens_more, space_there, words_after, joining}
-use Rattle.script.specs.Grammar.{tokens}
+use Rattle.std.proofs.Common.{rules, ◌≡◌, ◌∷◌, [], ◌<◌, ℕ, List, Option, Some, None, Bor, map, drop, get_or, length, sym, ap, ◌∙◌}
+use Rattle.std.specs.Iterator.{Yields}
+use Rattle.std.proofs.lemmas.List.{map-append}
+use Rattle.std.proofs.lemmas.Iterator.{YieldsList}
+use Rattle.std.proofs.lemmas.Iterator.Adapters.{YieldsList-from_skip}
+use Rattle.std.proofs.lemmas.Iterator.Consumers.{YieldsList-turn, YieldsList-end}
+use Rattle.std.proofs.lemmas.Iterator.Splits.{YieldsList-from_slice_split}
+use borrow.Author.Tests.{tests}
+use Rattle.script.specs.Grammar.{is_space, words, tokens}
+use Rattle.script.specs.declared.grammar.Token.{Token}
+use Rattle.script.proofs.grammar.Laws.{tokens_push, tokens_fail}
 use Rattle.script.proofs.grammar.tokens.Goals as goal
 
-pub loop-at-init : goal.loop-at-init
-loop-at-init c = tokens_start c.args.line.now c.word_end-at.result (vec_items c.clear.new.self) c.word_end-at.ensures.value c.clear.ensures.items
+turn : {S : Type 0} {steps : S → Option (Bor (List ℕ)) → S → Type 0} {s : S} (ws : List (List ℕ)) (xs : List (Bor (List ℕ))) (t : S) → Yields steps s xs t
+    → (r : Option (Bor (List ℕ))) (u : S) (x : Bor (List ℕ)) → r ≡ Some x → steps t r u → YieldsList steps (λ w. w.now) s ws
+    → (length xs < length ws) × (x.now ≡ get_or ws (length xs) x.now)
+turn ws xs t y r u x is step all = YieldsList-turn all xs t y r u x is step
 
-pub returns-in-None : goal.returns-in-None
-returns-in-None c =
-    let line = c.args.line.now in
-    tokens_fail line (vec_items c.loop-at.out) (line_tokens line) c.loop-at.at c.loop-at.invariant.1
-    c.word_end-end.result c.loop-at-test.true c.loop-at.invariant.0 c.word_end-end.ensures.value c.in-None.ensures
+ends : {S : Type 0} {steps : S → Option (Bor (List ℕ)) → S → Type 0} {s : S} (ws : List (List ℕ)) (xs : List (Bor (List ℕ))) (t : S) → Yields steps s xs t
+    → (r : Option (Bor (List ℕ))) (u : S) → r ≡ None → steps t r u → YieldsList steps (λ w. w.now) s ws → map (λ w. w.now) xs ≡ ws
+ends ws xs t y r u is step all = (YieldsList-end all xs t y r u is step).0
 
-pub loop-at-preserved : goal.loop-at-preserved
-loop-at-preserved c =
-    let line = c.args.line.now in
-    let items = vec_items c.loop-at.out in
-    let end = c.word_end-end.result in
-    let more = tokens_more line items (line_tokens line) c.loop-at.at c.loop-at.invariant.1
-    end c.loop-at-test.true c.loop-at.invariant.0 c.word_end-end.ensures.value c.in-Some.t c.in-Some.ensures in (
-      space_there line items (line_tokens line) c.loop-at.at c.loop-at.invariant.1
-          end c.loop-at-test.true c.loop-at.invariant.0 c.word_end-end.ensures.value,
-      ap (λ ts. joining ts (tokens (words_after line end))) c.in_ok-push-in-Some.ensures.items ∙ more,
-    )
+pub loop-word-preserved : goal.loop-word-preserved
+loop-word-preserved c =
+    let so_far = map (λ (w : Bor (List ℕ)). w.now) c.loop-word.yielded in
+    ap tokens (map-append (λ (w : Bor (List ℕ)). w.now) c.loop-word.yielded (c.in-Some.word ∷ []))
+    ∙ tokens_push so_far _ c.in-Some.word.now _ c.loop-word.invariant (sym c.in-Some-read_token.ensures)
+    ∙ ap Some (sym {A = List Token} c.in_ok-push-in-Some-read_token.ensures.items)
+
+pub returns-in-None-read_token : goal.returns-in-None-read_token
+returns-in-None-read_token c =
+    let ws = drop 1 (words c.args.line.now) in
+    sym (tokens_fail ws (length c.loop-word.yielded) c.in-Some.word.now
+    (turn ws c.loop-word.yielded _ c.loop-word.yielded_by _ _ c.in-Some.word c.in-Some.is c.next.ensures.steps
+    (YieldsList-from_skip 1 (YieldsList-from_slice_split _ is_space c.args.line.now (cc) (cc) (cc) (λ x b q k. search (rules, tests))) (cc)))
+    (sym c.in-None-read_token.ensures))
 
 pub returns : goal.returns
 returns c =
-    let line = c.args.line.now in
-    tokens_end line (vec_items c.loop-at.out) (line_tokens line) c.loop-at.at c.loop-at.invariant.1 c.loop-at-test.false
+    let ws = drop 1 (words c.args.line.now) in
+    let whole : map (λ (w : Bor (List ℕ)). w.now) c.loop-word.yielded ≡ ws =
+    ends ws c.loop-word.yielded _ c.loop-word.yielded_by _ _ c.in-None.is c.next.ensures.steps
+    (YieldsList-from_skip 1 (YieldsList-from_slice_split _ is_space c.args.line.now (cc) (cc) (cc) (λ x b q k. search (rules, tests))) (cc)) in
+    ap Some c.as_slice.ensures.value ∙ sym c.loop-word.invariant ∙ ap tokens whole

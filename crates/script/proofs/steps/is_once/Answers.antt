@@ -1,28 +1,30 @@
-use Rattle.std.proofs.Common.{◌≡◌, ◌+◌, true, false, drop, sym, ap, ◌∙◌}
-use Rattle.std.proofs.lemmas.List.{take_rest}
-use Rattle.script.specs.Grammar.{values}
-use Rattle.std.specs.List.{list_all}
+use Rattle.std.proofs.Common.{rules, ◌≡◌, ℕ, ◌+◌, ◌&&◌, List, [], ◌∷◌, drop, refl, sym, ap, ◌∙◌}
+use Rattle.std.specs.List.{enumerate_from, list_all}
+use Rattle.std.proofs.lemmas.Iterator.{YieldsList-from_slice}
+use Rattle.std.proofs.lemmas.Iterator.Consumers.{YieldsList-from_enumerate}
+use Rattle.std.proofs.lemmas.Iterator.Search.{all_from_yields_List}
+use Rattle.std.proofs.lemmas.List.{drop-drop, take_rest}
+use borrow.Author.Tests.{tests}
+use Rattle.script.specs.Grammar.{value, values}
 use Rattle.script.specs.Steps.{once}
-use Rattle.script.proofs.steps.Laws.{once_fails, once_goes_on, once_ends, other}
+use Rattle.script.specs.declared.grammar.Token.{Token}
+use Rattle.script.proofs.steps.Laws.{other}
 use Rattle.script.proofs.steps.is_once.Goals as goal
 
-pub returns-then-not-lacks : goal.returns-then-not-lacks
-returns-then-not-lacks c =
-    let ts = c.args.section.now in
-    let rest = values (drop (c.loop-i.i + 1) ts) in
-    let found : false ≡ list_all (other c.value.result) rest = simp take_rest at c.if-not-lacks.ensures in
-    once_fails ts c.loop-i.i (once (values ts)) c.loop-i.invariant c.loop-i-test.true
-    (ap (λ n. list_all (other n) rest) (sym c.value.ensures) ∙ sym found)
-
-pub loop-i-preserved : goal.loop-i-preserved
-loop-i-preserved c =
-    let ts = c.args.section.now in
-    let rest = values (drop (c.loop-i.i + 1) ts) in
-    let gone : true ≡ list_all (other c.value.result) rest = simp take_rest at c.if-not-lacks.ensures in
-    once_goes_on ts c.loop-i.i (once (values ts)) c.loop-i.invariant c.loop-i-test.true
-    (ap (λ n. list_all (other n) rest) (sym c.value.ensures) ∙ sym gone)
+-- the number at each place stands nowhere after it
+once_each : (whole ts : List Token) (n : ℕ) → drop n whole ≡ ts
+    → list_all (λ p. list_all (other (value p.1)) (values (drop (p.0 + 1) whole))) (enumerate_from n ts) ≡ once (values ts)
+once_each whole [] n is = refl
+once_each whole (t ∷ ts) n is =
+    let next : drop (n + 1) whole ≡ ts = sym (drop-drop 1 n whole) ∙ ap (drop 1) is in
+    let each = λ (p : ℕ × Token). list_all (other (value p.1)) (values (drop (p.0 + 1) whole)) in
+    ap (λ r. list_all (other (value t)) (values r) && list_all each (enumerate_from (n + 1) ts)) next
+    ∙ ap (λ b. list_all (other (value t)) (values ts) && b) (once_each whole ts (n + 1) next)
 
 pub returns : goal.returns
 returns c =
     let ts = c.args.section.now in
-    once_ends ts c.loop-i.i (once (values ts)) c.loop-i.invariant c.loop-i-test.false
+    all_from_yields_List (λ p. list_all (other (value p.1)) (values (drop (p.0 + 1) ts))) _ _ _ c.all.ensures.ran
+    (YieldsList-from_enumerate (YieldsList-from_slice ts (cc)) (cc))
+    (λ x b q k. search (rules, tests, take_rest))
+    ∙ once_each ts ts 0 refl

@@ -1,12 +1,16 @@
-use Rattle.std.proofs.Common.{sym, ◌∙◌}
+use Rattle.std.proofs.Common.{Bool, sym, ◌∙◌}
+use Rattle.script.specs.Spelling.{GrammarLaws}
 use Rattle.script.proofs.grammar.Numbers.{number_reads, number_writes}
 use Rattle.script.proofs.steps.Spelling.{form_spelled}
 use Rattle.script.proofs.steps.laws_shown.Goals as goal
 
-pub returns : goal.returns
-returns c = record {
+laws : (rounds : Bool) → GrammarLaws rounds
+laws rounds = record {
   reads = number_reads;
   writes = number_writes;
-  spells = form_spelled;
-  alone = λ size other line line' step first second. sym (form_spelled size line step first) ∙ form_spelled other line' step second;
+  spells = form_spelled rounds;
+  alone = λ size other line line' step first second. sym (form_spelled rounds size line step first) ∙ form_spelled rounds other line' step second;
 }
+
+pub returns : goal.returns
+returns g c = laws _

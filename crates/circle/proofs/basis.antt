@@ -1,0 +1,2 @@
+-- What the proofs of cards that fix a polynomial use.
+pub mod Sets

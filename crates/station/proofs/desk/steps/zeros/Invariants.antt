@@ -1,5 +1,0 @@
-use Rattle.std.proofs.Common.{◌≡◌, replicate, vec_items}
-use Rattle.station.proofs.desk.steps.zeros.Given as goal
-
-abbrev pub invariant-loop-i : goal.invariant-loop-i
-invariant-loop-i g l = vec_items l.all ≡ replicate l.i g.F.Field.ops.zero

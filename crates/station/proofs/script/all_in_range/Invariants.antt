@@ -1,9 +1,0 @@
--- what is left passes as the whole does
-use Rattle.std.proofs.Common.{◌≡◌, drop}
-use Rattle.station.specs.Grammar.{values}
-use Rattle.std.specs.List.{list_all}
-use Rattle.station.specs.Script.{in_range}
-use Rattle.station.proofs.script.all_in_range.Given as goal
-
-abbrev pub invariant-loop-token : goal.invariant-loop-token
-invariant-loop-token l = list_all (in_range l.low l.high) (values (drop l.token-index l.section)) ≡ list_all (in_range l.low l.high) (values l.section)

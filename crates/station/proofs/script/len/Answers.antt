@@ -1,7 +1,0 @@
-use Rattle.std.proofs.Common.{sym}
-use Rattle.std.proofs.lemmas.List.{length-map}
-use Rattle.station.specs.Grammar.{value}
-use Rattle.station.proofs.script.len.Goals as goal
-
-pub returns : goal.returns
-returns c = sym (length-map c.args.section.now value)

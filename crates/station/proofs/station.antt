@@ -1,0 +1,2 @@
+-- What the proofs of the station use.
+pub mod Dealing

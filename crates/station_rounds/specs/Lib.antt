@@ -1,4 +1,0 @@
-pub mod Desk
-pub mod DeskParts
-pub mod Fields
-pub mod Station
