@@ -1,5 +1,6 @@
 -- What a finite field is, with the points of its ids, and the bytes and numbers of its elements. Assumes nothing.
-use Rattle.std.specs.Prelude.{◌≡◌, ℕ, ◌^◌, ◌<◌, ◌≤◌, Bool, ◌≢◌, List, length, Decides}
+use Rattle.std.specs.Prelude.{◌≡◌, ℕ, ◌^◌, ◌<◌, ◌≤◌, Bool, true, nat_le, ◌≢◌, List, length, Decides}
+use Rattle.std.proofs.lemmas.Bool.{leb-true}
 use Rattle.std.specs.List.{AllByRecursion}
 
 -- The operations. `inv` is total, so that a quotient is a formula; nothing is said of the inverse of zero.
@@ -66,3 +67,7 @@ pub record Finite (K : Type 0) : Type 0 where
   pub below : (x : K) → number x < size
   pub numbered : (n : ℕ) (h : n < size) → number (element n h) ≡ n
   pub apart : (x y : K) → number x ≡ number y → x ≡ y
+
+-- a bound that is tested
+pub as_tested : {n m : ℕ} → nat_le n m ≡ true → n ≤ m
+as_tested {n} {m} is = leb-true n m is

@@ -4,7 +4,7 @@ ghost use Rattle.std.specs.Prelude.{◌≡◌, ℕ, List, length, slice_index, r
 ghost use Rattle.fields.specs.Byte.{byte_of, byte_ops, ProductLaws};
 ghost use Rattle.fields.specs.ByteField.{byte_points, byte_forms, byte_finite};
 ghost use Rattle.fields.specs.ByteLaws.{byte_laws, byte_equality};
-ghost use Rattle.fields.specs.Field.{sub};
+ghost use Rattle.fields.specs.Field.{sub, as_tested};
 
 use crate::byte::Byte;
 use crate::byte_tables::{logarithm, power};
@@ -92,6 +92,8 @@ impl Field for Byte {
     ghost neg_free = { λ x. tt };
 
     ghost neg_is = { λ x r e. e };
+
+    ghost few_bytes = { as_tested refl };
 
     ghost eq_is = { λ x y. refl };
 

@@ -133,6 +133,9 @@ pub trait Field: Copy
 
     ghost neg_is: { (x r : Self) → Self.Neg.neg_gives x r → r ≡ ops.neg x };
 
+    // An element takes few bytes.
+    ghost few_bytes: { type_size Self.row ≤ 65536 };
+
     // `==` tells which elements are the same.
     ghost eq_is: { (x y : Self) → Self.PartialEq.eq x y ≡ equality.same x y };
 }

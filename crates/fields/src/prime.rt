@@ -2,6 +2,7 @@
 
 ghost use Rattle.std.specs.Prelude.{◌≡◌, ◌%◌, ◌^◌, ◌<◌, MatchOption, ◌≢◌, refl};
 ghost use Rattle.fields.specs.Modulus.{prime_ops, prime_points, prime_forms, prime_finite};
+ghost use Rattle.fields.specs.Field.{as_tested};
 ghost use Rattle.fields.specs.Residue.{plus, minus, times, power};
 ghost use Rattle.fields.specs.ResidueLaws.{prime_laws, equality};
 ghost use Rattle.fields.specs.declared.residue.Residue.{Residue};
@@ -124,6 +125,8 @@ where
     ghost neg_free = { λ x. tt };
 
     ghost neg_is = { λ x r e. e };
+
+    ghost few_bytes = { as_tested refl };
 
     ghost eq_is = { λ x y. refl };
 
