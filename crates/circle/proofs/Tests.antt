@@ -1,6 +1,6 @@
 -- Tests of each element of a list. Assumes nothing.
-use Rattle.std.proofs.Common.{◌≡◌, ℕ, zero, suc, ◌<◌, Bool, true, ◌&&◌, List, [], ◌∷◌, map, length, get_or, take, refl, ap, ◌∙◌, inl, inr, arith}
-use Rattle.std.specs.List.{list_all, zip, AllByRecursion}
+use Rattle.std.proofs.Common.{◌≡◌, ℕ, zero, suc, ◌+◌, ◌-◌, ◌<◌, ◌≤◌, Bool, true, false, ◌&&◌, List, [], ◌∷◌, map, length, get_or, take, sym, refl, ap, ◌∙◌, inl, inr, arith}
+use Rattle.std.specs.List.{list_all, zip, range_with_len, AllByRecursion}
 use Rattle.std.proofs.lemmas.Bool.{and_parts, and_from}
 use Rattle.circle.specs.Lists.{In}
 
@@ -42,3 +42,23 @@ each_also test other weaker (x ∷ xs) all =
 pub each_pair : {A B C : Type 0} (test : B × C → Bool) (f : A → B) (g : A → C) (xs : List A) → list_all test (zip (map f xs) (map g xs)) ≡ list_all (λ x. test (f x, g x)) xs
 each_pair test f g [] = refl
 each_pair test f g (x ∷ xs) = ap (λ b. test (f x, g x) && b) (each_pair test f g xs)
+
+-- ## A loop that tests each number below n, at the turn p
+
+module _ (test : ℕ → Bool) (n p : ℕ) where
+  count_step : p < n → list_all test (range_with_len p (n - p)) ≡ (test p && list_all test (range_with_len (p + 1) (n - (p + 1))))
+  count_step less =
+      let e : n - p ≡ suc (n - (p + 1)) = omega arith in
+      ap (λ k. list_all test (range_with_len p k)) e
+
+  pub count_fails : p < n → test p ≡ false → list_all test (range_with_len p (n - p)) ≡ list_all test (range_with_len 0 n) → false ≡ list_all test (range_with_len 0 n)
+  count_fails less fails so_far = sym (count_step less ∙ ap (λ b. b && list_all test (range_with_len (p + 1) (n - (p + 1)))) fails) ∙ so_far
+
+  pub count_goes_on : p < n → test p ≡ true → list_all test (range_with_len p (n - p)) ≡ list_all test (range_with_len 0 n)
+      → list_all test (range_with_len (p + 1) (n - (p + 1))) ≡ list_all test (range_with_len 0 n)
+  count_goes_on less passes so_far = sym (count_step less ∙ ap (λ b. b && list_all test (range_with_len (p + 1) (n - (p + 1)))) passes) ∙ so_far
+
+  pub count_ends : n ≤ p → list_all test (range_with_len p (n - p)) ≡ list_all test (range_with_len 0 n) → true ≡ list_all test (range_with_len 0 n)
+  count_ends past so_far =
+      let e : n - p ≡ 0 = omega arith in
+      sym (ap (λ k. list_all test (range_with_len p k)) e) ∙ so_far

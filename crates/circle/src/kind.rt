@@ -6,6 +6,8 @@ ghost use Rattle.circle.specs.Kind.{contributors, roll_after, threshold_after, e
 
 use crate::ids::IdSet;
 
+// Helpers are a number, whose bits are those of an `IdSet`: the checker does not copy an enum that holds one where it is passed by
+// value twice.
 #[derive(Clone, Copy, Debug, PartialEq, Eq)]
 pub enum Kind {
     /// Renews every share.
@@ -13,13 +15,12 @@ pub enum Kind {
     /// Renews every share but the leaver's, who goes.
     Dismissal { leaver: u8 },
     /// Gives everyone a share of the same key under another threshold, from the shares of the helpers.
-    Change { threshold: u16, helpers: IdSet },
+    Change { threshold: u16, helpers: u32 },
     /// Gives a newcomer a share, from the shares of the helpers.
-    Admission { newcomer: u8, helpers: IdSet },
+    Admission { newcomer: u8, helpers: u32 },
 }
 
-// A match for each question and not for each kind, since the tests of a beginning have one order for all kinds. By `&self`, since
-// the checker copies a set by value, but not a kind that holds one.
+// A match for each question and not for each kind, since the tests of a beginning have one order for all kinds.
 impl Kind {
     // Who contributes, of those on the roll.
     pub(crate) fn contributors(&self, roll: IdSet) -> IdSet
@@ -28,7 +29,7 @@ impl Kind {
         match *self {
             Kind::Refresh => roll,
             Kind::Dismissal { leaver } => roll.remove(leaver),
-            Kind::Change { helpers, .. } | Kind::Admission { helpers, .. } => helpers,
+            Kind::Change { helpers, .. } | Kind::Admission { helpers, .. } => IdSet::from(helpers),
         }
     }
 
@@ -71,9 +72,9 @@ impl Kind {
         match *self {
             Kind::Refresh => true,
             Kind::Dismissal { leaver } => (1..=largest).contains(&leaver),
-            Kind::Change { helpers, .. } => helpers.all_within(largest),
+            Kind::Change { helpers, .. } => IdSet::from(helpers).all_within(largest),
             Kind::Admission { newcomer, helpers } => {
-                (1..=largest).contains(&newcomer) && helpers.all_within(largest)
+                (1..=largest).contains(&newcomer) && IdSet::from(helpers).all_within(largest)
             }
         }
     }
@@ -96,7 +97,7 @@ impl Kind {
             Kind::Refresh => true,
             Kind::Dismissal { leaver } => roll.contains(leaver),
             Kind::Change { helpers, .. } | Kind::Admission { helpers, .. } => {
-                helpers.is_subset(roll)
+                IdSet::from(helpers).is_subset(roll)
             }
         }
     }
@@ -116,8 +117,8 @@ impl Kind {
         ensures { result ≡ helpers_enough self.now old }
     {
         match *self {
-            Kind::Change { helpers, .. } => old as u32 <= helpers.size(),
-            Kind::Admission { helpers, .. } => helpers.size() == old as u32,
+            Kind::Change { helpers, .. } => old as u32 <= IdSet::from(helpers).size(),
+            Kind::Admission { helpers, .. } => IdSet::from(helpers).size() == old as u32,
             Kind::Refresh | Kind::Dismissal { .. } => true,
         }
     }

@@ -1,6 +1,6 @@
 //! Opening a key from cards: the first as many as the threshold give it, and the others must agree.
 
-ghost use Rattle.std.specs.Prelude.{◌≡◌, true, length};
+ghost use Rattle.std.specs.Prelude.{◌≡◌, ◌≤◌, true, length};
 ghost use Rattle.std.specs.List.{list_all};
 ghost use Rattle.circle.specs.Open.{face, faces, id_known, as_long, on_roll, of_epoch, other_id, ids_differ, lies, open_answer, open_key};
 ghost use Rattle.circle.specs.State.{facts};
@@ -72,6 +72,16 @@ fn all_agree<F: Field>(cards: &[Card<'_, F>], basis: &Basis<'_, F>) -> bool
     cards.iter().all(|card| basis.agrees(card))
 }
 
+// How many cards open the key: no more than there are ids.
+fn needed<F>(circle: &Circle<F>) -> usize
+    ensures is { result ≡ circle.now.threshold }
+    ensures few { result ≤ 32 }
+{
+    // Read for the proof: a roll has at most 32 ids, and the threshold is no larger than the roll.
+    let _roll = circle.roll();
+    circle.threshold as usize
+}
+
 /// Opens the key from cards.
 #[tactic(auto, using(crate::proofs::open::Cards::card_steps))]
 pub fn open<F: Field>(
@@ -83,7 +93,7 @@ pub fn open<F: Field>(
     ensures key { key.new ≡ open_key F.ops F.points.at result (facts circle.now) (faces cards.now) key.old }
 {
     let places = circle.places as usize;
-    let threshold = circle.threshold as usize;
+    let threshold = needed(circle);
     if !all_known(cards) {
         return Err(Denial::NoSuchId);
     }

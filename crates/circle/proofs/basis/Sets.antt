@@ -136,3 +136,9 @@ pub id_at : {K : Type 0} (cards : List (Card K)) (i : ℕ) → i < length cards 
 id_at [] i less x read = absurd (omega arith)
 id_at (c ∷ cards) zero less x read = inl (ap (λ (y : Card _). y.id) read)
 id_at (c ∷ cards) (suc i) less x read = inr (id_at cards i (omega arith) x read)
+
+-- and that id stands there
+pub id_read : {K : Type 0} (cards : List (Card K)) (i : ℕ) → i < length cards → (x : Card K) → x ≡ get_or cards i x → x.id ≡ get_or (ids_of (faces cards)) i 0
+id_read [] i less x read = absurd (omega arith)
+id_read (c ∷ cards) zero less x read = ap (λ (y : Card _). y.id) read
+id_read (c ∷ cards) (suc i) less x read = id_read cards i (omega arith) x read

@@ -100,6 +100,7 @@ impl<F: Field> Circle<F> {
         ensures answer { begun result ≡ begin_answer F.points.largest (facts self) (Kind.Change threshold helpers) (length tally.old) }
         ensures tally { tally.new ≡ begin_tally F.ops (begun result) tally.old }
     {
+        let helpers = u32::from(helpers);
         begin(self, Kind::Change { threshold, helpers }, tally)
     }
 
@@ -117,7 +118,7 @@ impl<F: Field> Circle<F> {
             self,
             Kind::Admission {
                 newcomer: id,
-                helpers,
+                helpers: u32::from(helpers),
             },
             tally,
         )

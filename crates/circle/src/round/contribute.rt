@@ -120,7 +120,7 @@ impl<F: Field> Round<F> {
                 add_each(tally, |p, h| holders.value(h, piece_of(numbers, terms, p)));
             }
             Kind::Change { helpers, .. } => {
-                let constant = constant_in(helpers, id, F::zero());
+                let constant = constant_in(IdSet::from(helpers), id, F::zero());
                 add_each(tally, |p, h| {
                     let rest = piece_of(numbers, terms, p);
                     let share = table[32 * p + id as usize - 1];
@@ -128,6 +128,7 @@ impl<F: Field> Round<F> {
                 });
             }
             Kind::Admission { newcomer, helpers } => {
+                let helpers = IdSet::from(helpers);
                 let constant: F = constant_for(newcomer, helpers, id);
                 add_each(tally, |p, h| {
                     let rest = piece_of(numbers, terms, p);

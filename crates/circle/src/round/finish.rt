@@ -60,7 +60,9 @@ impl<F: Field> Round<F> {
         match self.kind {
             Kind::Refresh | Kind::Dismissal { .. } => share + x * entry_of(tally, p, h),
             Kind::Change { .. } => entry_of(tally, p, h),
-            Kind::Admission { newcomer, helpers } if h == newcomer => total(helpers, tally, p),
+            Kind::Admission { newcomer, helpers } if h == newcomer => {
+                total(IdSet::from(helpers), tally, p)
+            }
             Kind::Admission { .. } => share,
         }
     }
