@@ -199,6 +199,12 @@ deals (shown id) = true
 deals (opened cards) = true
 deals _ = false
 
+-- such a step's letter comes first: M, D, K or O
+abbrev pub begins_dealing : List ℕ → Bool
+begins_dealing line =
+    let letter = slice_index line 0 in
+    (letter == 77) || ((letter == 68) || ((letter == 75) || (letter == 79)))
+
 -- a script with the rounds knows every step, and one without them the steps of dealing
 abbrev pub known : Bool → Meaning → Bool
 known rounds step = rounds || deals step

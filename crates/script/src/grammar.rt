@@ -1,10 +1,11 @@
 //! The grammar of a line: words between spaces, numbers in plain decimal, and slashes.
 
-ghost use Rattle.std.specs.Prelude.{◌≡◌, ◌<◌, ◌≤◌, length, IfOk, MatchOption};
+ghost use Rattle.std.specs.Prelude.{◌≡◌, ◌<◌, ◌≤◌, ◌+◌, ◌-◌, ◌*◌, ◌&&◌, nat_le, length, IfOk, MatchOption};
+ghost use Rattle.std.specs.Bool.{then_some};
+ghost use Rattle.std.specs.Char.{is_ascii_digit};
 ghost use Rattle.std.specs.List.{slice_get};
 ghost use Rattle.std.specs.Option.{option_copied};
-ghost use Rattle.std.specs.Str.{all_ascii_digits};
-ghost use Rattle.script.specs.Grammar.{before, is_slash, line_tokens, number, part, sections, token, value, values, words};
+ghost use Rattle.script.specs.Grammar.{before, digits_number, is_slash, line_tokens, number, part, sections, token, value, values, words};
 
 use std::alloc::AllocError;
 
@@ -24,27 +25,32 @@ pub(crate) fn word(line: &[u8], place: usize) -> Option<&[u8]>
     line.split(|byte| *byte == b' ').nth(place)
 }
 
-// Is each byte a digit?
-fn all_digits(word: &[u8]) -> bool
-    ensures { result ≡ all_ascii_digits word.now }
+// The number with one digit more, if the byte is one and the number at most 65,535.
+fn with_digit(value: u16, byte: u8) -> Option<u16>
+    ensures { result ≡ then_some (is_ascii_digit byte && nat_le (value * 10 + (byte - 48)) 65535) (value * 10 + (byte - 48)) }
 {
-    word.iter().all(|byte| byte.is_ascii_digit())
+    if !byte.is_ascii_digit() {
+        return None;
+    }
+    u16::try_from(u32::from(value) * 10 + u32::from(byte - b'0')).ok()
+}
+
+// The number that digits write, if it is at most 65,535.
+fn digits_number(word: &[u8]) -> Option<u16>
+    ensures { result ≡ digits_number word.now }
+{
+    word.iter()
+        .try_fold(0, |value, byte| with_digit(value, *byte))
 }
 
 // The number that a word is: unpadded decimal, at most 65,535. No TryFrom: its error would have nothing to say.
 fn number(word: &[u8]) -> Option<u16>
     ensures { result ≡ number word.now }
 {
-    if word.len() > 1 && word[0] == b'0' {
-        return None;
+    match word {
+        [] | [b'0', _, ..] => None,
+        _ => digits_number(word),
     }
-    if !all_digits(word) {
-        return None;
-    }
-    let Ok(text) = str::from_utf8(word) else {
-        return None;
-    };
-    text.parse().ok()
 }
 
 // The token that a word is. No TryFrom, as for a number.
@@ -65,7 +71,9 @@ pub(crate) fn tokens<'a>(
     ensures { IfOk result (λ found. option_copied found ≡ line_tokens line.now) }
 {
     room.clear();
-    for word in line.split(|byte| *byte == b' ').skip(1) {
+    let mut words = line.split(|byte| *byte == b' ');
+    let _ = words.next();
+    for word in words {
         match read_token(word) {
             Some(token) => room.push(token)?,
             None => return Ok(None),

@@ -1,11 +1,12 @@
 //! The steps of the script, and the lines that state them.
 
-ghost use Rattle.std.specs.Prelude.{◌≡◌, ◌==◌, ℕ, true, not, List, drop, IfOk};
+ghost use Rattle.std.specs.Prelude.{◌≡◌, ◌==◌, ◌||◌, ℕ, true, false, not, List, drop, IfOk};
 ghost use Rattle.std.specs.Bool.{then_some};
 ghost use Rattle.std.specs.List.{list_all};
 ghost use Rattle.std.specs.Option.{option_copied, option_map};
+ghost use Rattle.std.proofs.lemmas.Map.Entries.{option_filter};
 ghost use Rattle.script.specs.Grammar.{part, sections, values, words};
-ghost use Rattle.script.specs.Steps.{admit_form, any_form, card_of, card_read, card_stands, cards, change_form, contribute_form, deal_form, deals, field_name, filled, first, form, in_range, is_card, known, letter_form, lists_elements, lists_ids, lone_id, meaning, name_form, next_card, once, open_form, pair_stands, stands, stated};
+ghost use Rattle.script.specs.Steps.{admit_form, begins_dealing, card_of, card_read, card_stands, cards, change_form, contribute_form, deal_form, deals, field_name, filled, first, form, in_range, is_card, known, letter_form, lists_elements, lists_ids, lone_id, meaning, name_form, named, next_card, once, open_form, pair_stands, stands, stated};
 ghost use Rattle.script.specs.Spelling.{GrammarLaws};
 
 use crate::grammar::{Token, section, section_end, tokens, word};
@@ -113,10 +114,8 @@ fn field_name(word: &[u8]) -> Option<FieldName>
 fn name_step(line: &[u8]) -> Option<FieldName>
     ensures { result ≡ name_form (drop 1 (words line.now)) }
 {
-    match (word(line, 1), word(line, 2)) {
-        (Some(name), None) => field_name(name),
-        _ => None,
-    }
+    let space = line.iter().position(|byte| *byte == b' ')?;
+    field_name(&line[space + 1..])
 }
 
 // ## Sections
@@ -219,11 +218,12 @@ fn cards_stand(size: u32, tokens: &[Token]) -> bool
 // `size` and `tokens` stay two parameters: a struct of them would only lengthen the names in the contracts.
 
 // The id of `X id` and `K id`.
+#[tactic(auto, using(crate::proofs::steps::Laws::lone_long))]
 fn lone_id(tokens: &[Token]) -> Option<u8>
     ensures { result ≡ lone_id (sections tokens.now) }
 {
-    match (section(tokens, 0), section(tokens, 1)) {
-        (Some([id]), None) => u8::try_from(id.value()).ok(),
+    match tokens {
+        [Token::Number(id)] => u8::try_from(*id).ok(),
         _ => None,
     }
 }
@@ -300,15 +300,22 @@ fn open_step(size: u32, tokens: &[Token]) -> Option<Step<'_>>
 
 // ## Lines
 
-// The step that a letter names, of a line and of its tokens, if all its words but the first are such.
+// The step of `M word`, if a script with the rounds, or without, knows it.
+fn known_name<'a>(rounds: bool, line: &[u8]) -> Option<Step<'a>>
+    ensures says { option_map meaning result ≡ option_filter (known rounds) (option_map named (name_form (drop 1 (words line.now)))) }
+    ensures stands { (size : ℕ) → stands size result ≡ true }
+{
+    let step = Step::Name(name_step(line)?);
+    step.is_known(rounds).then_some(step)
+}
+
+// The step that a letter other than M names, of a line's tokens, if all its words but the first are such.
 #[tactic(auto, using(crate::proofs::steps::Laws::alone_is))]
-fn step_of<'a>(size: u32, letter: u8, line: &[u8], tokens: Option<&'a [Token]>) -> Option<Step<'a>>
-    ensures says { option_map meaning result ≡ letter_form size letter (drop 1 (words line.now)) (option_copied tokens.entry) }
+fn step_of<'a>(size: u32, letter: u8, tokens: Option<&'a [Token]>) -> Option<Step<'a>>
+    requires { (letter == 77) ≡ false }
+    ensures says { (rest : List (List ℕ)) → option_map meaning result ≡ letter_form size letter rest (option_copied tokens.entry) }
     ensures stands { stands size result ≡ true }
 {
-    if letter == b'M' {
-        return Some(Step::Name(name_step(line)?));
-    }
     let tokens = tokens?;
     match letter {
         b'D' => deal_step(size, tokens),
@@ -325,20 +332,11 @@ fn step_of<'a>(size: u32, letter: u8, line: &[u8], tokens: Option<&'a [Token]>) 
     }
 }
 
-// The step that a line without its newline states, of all steps.
-fn any_step<'a>(
-    size: u32,
-    line: &[u8],
-    room: &'a mut Vec<Token>,
-) -> Result<Option<Step<'a>>, AllocError>
-    ensures says { IfOk result (λ step. option_map meaning step ≡ any_form size line.now) }
-    ensures stands { IfOk result (λ step. stands size step ≡ true) }
+// Has a script with the rounds, or without, a step whose letter is the line's first byte?
+fn has_letter(rounds: bool, line: &[u8]) -> bool
+    ensures { result ≡ (rounds || begins_dealing line.now) }
 {
-    let Some([letter]) = word(line, 0) else {
-        return Ok(None);
-    };
-    let tokens = tokens(line, room)?;
-    Ok(step_of(size, *letter, line, tokens))
+    rounds || matches!(line, [b'M' | b'D' | b'K' | b'O', ..])
 }
 
 /// The step that a line without its newline states, with elements below `size`; none if it is not of the form.
@@ -352,10 +350,17 @@ pub fn parse<'a, const ROUNDS: bool>(
     ensures says { IfOk result (λ step. option_map meaning step ≡ form ROUNDS size line.now) }
     ensures stands { IfOk result (λ step. stands size step ≡ true) }
 {
-    match any_step(size, line, room)? {
-        Some(step) if step.is_known(ROUNDS) => Ok(Some(step)),
-        _ => Ok(None),
+    if !has_letter(ROUNDS, line) {
+        return Ok(None);
     }
+    let Some([letter]) = word(line, 0) else {
+        return Ok(None);
+    };
+    let tokens = tokens(line, room)?;
+    if *letter == b'M' {
+        return Ok(known_name(ROUNDS, line));
+    }
+    Ok(step_of(size, *letter, tokens))
 }
 
 // The laws of the grammar, shown once.

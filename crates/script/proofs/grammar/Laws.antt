@@ -1,8 +1,8 @@
 -- Laws of the grammar's parts.
-use Rattle.std.proofs.Common.{◌≡◌, ℕ, zero, suc, ◌<◌, Bool, not, List, [], ◌∷◌, ◌++◌, map, length, get_or, take, drop, Some, None, Option, sym, refl, ap, ◌∙◌, inl, inr, one-add, arith}
+use Rattle.std.proofs.Common.{◌≡◌, ℕ, zero, suc, ◌<◌, ◌≤◌, Bool, not, List, [], ◌∷◌, ◌++◌, map, length, get_or, take, drop, Some, None, Option, sym, refl, ap, ◌∙◌, inl, inr, one-add, arith, length-drop, take_all}
 use Rattle.std.specs.List.{onto_first}
 use Rattle.std.proofs.lemmas.List.Sums.{prefix_len-le-length}
-use Rattle.std.proofs.lemmas.List.{length-map, length-take-le}
+use Rattle.std.proofs.lemmas.List.{length-map, length-take-le, drop_all}
 use Rattle.std.proofs.lemmas.Bool.{cases_Bool}
 use Rattle.script.specs.Grammar.{split, before, token, tokens, also, is_slash, value, values, sections, part}
 use Rattle.script.specs.declared.grammar.Token.{Token}
@@ -70,6 +70,40 @@ module _ {A : Type 0} (test : A → Bool) where
 
   pub first_long : (xs : List A) → length (part (split test xs) 0) ≡ before test xs
   first_long xs = ap length (first-is xs) ∙ length-take-le _ xs (prefix_len-le-length (λ x. not (test x)) xs)
+
+  -- where nothing passes, all is one part
+  pub split_whole : (xs : List A) → before test xs ≡ length xs → split test xs ≡ xs ∷ []
+  split_whole xs whole =
+      split_cut xs
+      ∙ ap (λ n. take n xs ∷ drop 1 (split test (drop n xs))) whole
+      ∙ ap (λ p. p ∷ drop 1 (split test (drop (length xs) xs))) (take_all (length xs) xs (omega arith))
+      ∙ ap (λ r. xs ∷ drop 1 (split test r)) (drop_all (length xs) xs (omega arith))
+
+  there_more : (ys : List A) → 0 < length ys → before test ys ≡ 0 → 2 ≤ length (split test ys)
+  there_more [] some here = absurd (omega arith)
+  there_more (y ∷ ys) some here =
+      elim (cases_Bool (test y)) [
+        | inl passes ↦ rw passes (omega (arith, ap length (split_cut ys)))
+        | inr fails ↦ let one : suc (before test ys) ≡ 0 = rw (fails, one-add) at here in absurd (omega arith)
+      ]
+
+  -- where an element passes, there are two parts at least
+  pub split_more : (xs : List A) → before test xs < length xs → 2 ≤ length (split test xs)
+  split_more xs less =
+      let rest = drop (before test xs) xs in
+      omega (arith, there_more rest (omega (arith, less, length-drop (before test xs) xs)) (before_there xs), ap length (split_cut xs), length-drop 1 (split test rest))
+
+  -- past an element that passes, the other parts are those of what is left
+  pub split_next : (ys : List A) → 0 < length ys → before test ys ≡ 0 → drop 1 (split test ys) ≡ split test (drop 1 ys)
+  split_next [] some here = absurd (omega arith)
+  split_next (y ∷ ys) some here =
+      elim (cases_Bool (test y)) [
+        | inl passes ↦ rw passes refl
+        | inr fails ↦ let one : suc (before test ys) ≡ 0 = rw (fails, one-add) at here in absurd (omega arith)
+      ]
+
+  pub before_within : (xs : List A) → before test xs ≤ length xs
+  before_within xs = prefix_len-le-length (λ x. not (test x)) xs
 
 -- ## Sections
 

@@ -1,21 +1,22 @@
 -- A line of the form is the spelling of its step.
-use Rattle.std.proofs.Common.{◌≡◌, ℕ, ◌≤◌, Bool, true, cond, ◌&&◌, eqb, ltb, leb, List, [], ◌∷◌, ◌++◌, map, length, get_or, drop, Some, None, Option, sym, refl, ap, ◌∙◌, inl, inr, arith}
+use Rattle.std.proofs.Common.{◌≡◌, ℕ, ◌+◌, ◌<◌, ◌≤◌, Bool, true, false, cond, ◌&&◌, eqb, ltb, leb, List, [], ◌∷◌, ◌++◌, map, length, get_or, drop, Some, None, Option, sym, refl, ap, ◌∙◌, inl, inr, arith, length-drop}
 use Rattle.std.specs.List.{flat_map, join_with_byte, list_all, onto_first, AllByRecursion}
 use Rattle.std.specs.Option.{option_map}
 use Rattle.std.specs.Str.{bytes_eq}
-use Rattle.std.proofs.lemmas.List.{append_assoc, append-nil}
+use Rattle.std.proofs.lemmas.List.{append_assoc, append-nil, drop-drop}
 use Rattle.std.proofs.lemmas.List.Splits.{join_with_byte-slice_split}
 use Rattle.std.proofs.lemmas.Slice.Eq.{bytes_eq-Decides}
 use Rattle.std.proofs.lemmas.Map.Entries.{option_filter}
 use Rattle.std.proofs.lemmas.Option.{none-some, same_Some, cond_some}
-use Rattle.std.proofs.lemmas.Bool.{and_parts, cases_Bool, eqb-true, leb-true}
-use Rattle.script.specs.Grammar.{split, words, is_space, number, is_slash_word, token, also, tokens, is_slash, values, sections, part}
+use Rattle.std.proofs.lemmas.Bool.{and_parts, cases_Bool, cases_lt, eqb-true, leb-true, lt-ltb, ltb-true, ne_eqb}
+use Rattle.script.specs.Grammar.{split, before, words, is_space, number, is_slash_word, token, also, tokens, is_slash, values, sections, part}
 use Rattle.script.specs.Steps.{Meaning, named, refreshed, dismissed, changed, admitted, contributed, finished, abandoned, shown, in_range, is_card, is_lone_id, card_stands, stated, names, named_by, field_name, name_form, deal_stands, deal_form, first, alone_stands, alone_form, id_stands, lone_id, lists_ids, lists_elements, pair_stands, change_form, admit_form, contribute_form, open_stands, open_form, of_sections, under, letters, letter_form, any_form, known, form}
 use Rattle.script.specs.Spelling.{number_text, section_text, field_text, card_text, spelled}
 use Rattle.script.specs.declared.grammar.Token.{Token}
 use Rattle.script.specs.declared.grammar.Token.TheVariants.{Number, Slash}
 use Rattle.script.specs.declared.steps.FieldName.{FieldName}
-use Rattle.script.proofs.grammar.Laws.{split_cut}
+use Rattle.script.specs.declared.steps.FieldName.TheVariants.{Z13, Z41, Z257, Byte}
+use Rattle.script.proofs.grammar.Laws.{split_cut, split_whole, split_more, split_next, before_there, before_within}
 use Rattle.script.proofs.grammar.Numbers.{some_under, number_reads}
 
 -- ## Words
@@ -112,6 +113,53 @@ name_in word field (e ∷ es) texts is =
 
 name_spelled : (word : List ℕ) (field : FieldName) → field_name word ≡ Some field → word ≡ field_text field
 name_spelled word field is = name_in word field names (refl, (refl, (refl, (refl, tt)))) is
+
+-- no field's name has a space in it
+one_field : (field : FieldName) → length (words (field_text field)) ≡ 1
+one_field Z13 = refl
+one_field Z41 = refl
+one_field Z257 = refl
+one_field Byte = refl
+
+no_field : (rest : List ℕ) (o : Option FieldName) → field_name rest ≡ o → 2 ≤ length (words rest) → o ≡ None
+no_field rest None is more = refl
+no_field rest (Some field) is more =
+    let same : length (words rest) ≡ length (words (field_text field)) = ap (λ w. length (words w)) (name_spelled rest field is) in
+    absurd (omega (arith, more, same, one_field field))
+
+-- so what stands after the first space is a name, or its words are not one name
+name_rest : (rest : List ℕ) → field_name rest ≡ name_form (words rest)
+name_rest rest =
+    elim (cases_lt (before is_space rest) (length rest)) [
+      | inl less ↦
+          let more : 2 ≤ length (words rest) = split_more is_space rest less in
+          let other : eqb (length (words rest)) 1 ≡ false = ne_eqb _ _ (λ e. absurd (omega (arith, more, e))) in
+          no_field rest (field_name rest) refl more ∙ sym (ap (λ b. cond b (field_name (part (words rest) 0)) None) other)
+      | inr past ↦
+          let whole : words rest ≡ rest ∷ [] = split_whole is_space rest (omega (arith, past, before_within is_space rest)) in
+          sym (ap name_form whole)
+    ]
+
+pub name_at : (line : List ℕ) (n : ℕ) → Some n ≡ cond (ltb (before is_space line) (length line)) (Some (before is_space line)) None
+    → field_name (drop (n + 1) line) ≡ name_form (drop 1 (words line))
+name_at line n is =
+    let b = before is_space line in
+    let found = cond_some (ltb b (length line)) b n (sym is) in
+    let rest = drop b line in
+    let words-rest : drop 1 (words line) ≡ words (drop (b + 1) line) =
+    ap (drop 1) (split_cut is_space line)
+    ∙ split_next is_space rest (omega (arith, ltb-true _ _ found.0, length-drop b line)) (before_there is_space line)
+    ∙ ap words (drop-drop 1 b line) in
+    ap (λ k. field_name (drop (k + 1) line)) (sym found.1) ∙ name_rest (drop (b + 1) line) ∙ ap name_form (sym words-rest)
+
+pub name_none : (line : List ℕ) → None ≡ cond (ltb (before is_space line) (length line)) (Some (before is_space line)) None → None ≡ name_form (drop 1 (words line))
+name_none line is =
+    elim (cases_lt (before is_space line) (length line)) [
+      | inl less ↦ absurd (none-some (before is_space line) (rw (lt-ltb _ _ less) at is))
+      | inr past ↦
+          let whole : words line ≡ line ∷ [] = split_whole is_space line (omega (arith, past, before_within is_space line)) in
+          sym (ap (λ ws. name_form (drop 1 ws)) whole)
+    ]
 
 one_word : (rest : List (List ℕ)) → length rest ≡ 1 → spaced rest ≡ 32 ∷ part rest 0
 one_word [] one = absurd (omega arith)
