@@ -3,3 +3,4 @@ pub mod DeskParts
 pub mod Fields
 pub mod Refusal
 pub mod Station
+pub mod States

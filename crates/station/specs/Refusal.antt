@@ -1,5 +1,5 @@
 -- The number of each refusal, and what holds of an answer. Assumes nothing.
-use Rattle.std.specs.Prelude.{ℕ, Ok, Err, Result}
+use Rattle.std.specs.Prelude.{◌≡◌, ℕ, ◌⊎◌, Ok, Err, Result}
 use Rattle.circle.specs.Denial.{number as denial_number}
 use Rattle.station.specs.declared.refusal.Failure.{Failure}
 use Rattle.station.specs.declared.refusal.Failure.TheVariants.{Refused, OutOfMemory}
@@ -20,3 +20,13 @@ IfRefused (OutOfMemory error) P = Unit {0}
 abbrev pub IfAnswered : {A : Type 0} → Result A Failure → (Result A Refusal → Type 0) → Type 0
 IfAnswered (Ok x) P = P (Ok x)
 IfAnswered (Err failure) P = IfRefused failure (λ refusal. P (Err refusal))
+
+-- what holds where there was no memory to answer
+abbrev pub IfLacking : {A : Type 0} → Result A Failure → Type 0 → Type 0
+IfLacking (Ok x) P = Unit {0}
+IfLacking (Err (Refused refusal)) P = Unit {0}
+IfLacking (Err (OutOfMemory error)) P = P
+
+-- what is now is what was, or what comes next
+abbrev pub StaysOrSteps : {X : Type 0} → X → X → X → Type 0
+StaysOrSteps old next now = (now ≡ old) ⊎ (now ≡ next)

@@ -1,17 +1,16 @@
 -- The states of a script, and what a line makes of them. Assumes nothing.
-use Rattle.std.specs.Prelude.{◌≡◌, ℕ, Bool, true, false, List, [], Ok, Err, Result}
+use Rattle.std.specs.Prelude.{ℕ, Bool, false, List, [], Ok, Err, Result}
 use Rattle.std.specs.Option.{option_map_or}
 use Rattle.fields.specs.Field.{Ops, Points, Finite}
 use Rattle.station.specs.Fields.{field}
-use Rattle.station.specs.Desk.{Said, Holding, running, Kept, kept, nothing, kept_after, reply, set_of, deal_move, begin_move, contribute_move, finish_move, abandon_move, show_said, open_said}
+pub use Rattle.station.specs.States.{State, unnamed, at, desks_state, IsIdle, IsDealing}
+use Rattle.station.specs.Desk.{Said, Kept, nothing, kept_after, reply, set_of, deal_move, begin_move, contribute_move, finish_move, abandon_move, show_said, open_said}
 use Rattle.circle.specs.declared.kind.Kind.TheVariants.{Refresh, Dismissal, Change, Admission}
-use Rattle.script.specs.Steps.{Meaning, named, dealt, refreshed, dismissed, changed, admitted, contributed, finished, abandoned, shown, opened, is_modulus, form}
+use Rattle.script.specs.Steps.{Meaning, named, dealt, refreshed, dismissed, changed, admitted, contributed, finished, abandoned, shown, opened, form}
 use Rattle.script.specs.declared.steps.FieldName.{FieldName}
 use Rattle.script.specs.declared.steps.FieldName.TheVariants.{Z13, Z41, Z257, Byte}
 use Rattle.station.specs.declared.refusal.Refusal.{Refusal}
 use Rattle.station.specs.declared.refusal.Refusal.TheVariants.{NotOfForm, NotAllowed}
-use Rattle.station.specs.declared.station.Desks.{Desks}
-use Rattle.station.specs.declared.station.Desks.TheVariants.{Unnamed, At13, At41, At257, AtByte}
 use Rattle.station.specs.declared.station.Station.{Station}
 
 -- ## A step at the desk of a field that is named
@@ -42,20 +41,9 @@ module _ {K : Type 0} (F : Ops K) (fin : Finite K) (m : Points F) where
 
 -- ## States
 
--- no field is named yet, or one is, and its desk keeps what was dealt
-pub data State : Type 0 where
-  unnamed : State
-  at : (name : FieldName) → Kept (field name).K → State
-
-abbrev pub desks_state : Desks → State
-desks_state Unnamed = unnamed
-desks_state (At13 desk) = at Z13 (kept desk)
-desks_state (At41 desk) = at Z41 (kept desk)
-desks_state (At257 desk) = at Z257 (kept desk)
-desks_state (AtByte desk) = at Byte (kept desk)
-
-abbrev pub state : {rounds : ℕ} → Station rounds → State
-state s = desks_state s.desks
+-- the second braces are the members of the bound, which Rattle passes
+abbrev pub state : {rounds : ℕ} {script : _} → Station rounds script → State
+state s = desks_state s.of_script.desks
 
 -- elements are below this
 abbrev pub element_size : State → ℕ
@@ -101,16 +89,6 @@ abbrev pub line_state : Bool → State → List ℕ → State
 line_state rounds s line = option_map_or (step_state s) (form rounds (element_size s) line) s
 
 -- ## A script without the rounds
-
--- no round is open
-abbrev pub IsIdle : Holding → Type 0
-IsIdle (running r) = ⊥
-IsIdle _ = Unit {0}
-
--- no field is named, or one by its modulus, and no round is open
-abbrev pub IsDealing : State → Type 0
-IsDealing unnamed = Unit {0}
-IsDealing (at name k) = (is_modulus name ≡ true) × IsIdle k.holding
 
 -- without the rounds, a line of such a state leads to such a state
 abbrev pub StaysDealing : Type 0

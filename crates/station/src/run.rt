@@ -1,7 +1,7 @@
 //! A whole run: lines in, answers out. What a program reads and writes is outside any contract, so these functions are kept thin.
 
 use crate::refusal::{Failure, Refusal};
-use crate::station::Station;
+use crate::station::{Script, ScriptOf, Station};
 use script::grammar::Token;
 use script::line::{Line, Took};
 use std::alloc::Global;
@@ -10,7 +10,10 @@ use std::io::{BufWriter, Read, Write};
 
 // The state of the script, the line that is being read, and memory for its tokens.
 #[derive(Drop)]
-struct Run<const ROUNDS: bool> {
+struct Run<const ROUNDS: bool>
+where
+    ScriptOf<ROUNDS>: Script,
+{
     station: Station<ROUNDS>,
     line: Line,
     room: Vec<Token>,

@@ -1,6 +1,6 @@
 //! The steps at the desk of a field that is named. `heap` goes down to all that allocates, as in the library.
 
-ghost use Rattle.std.specs.Prelude.{◌≡◌, ◌+◌, ◌*◌, ◌≤◌, ◌∷◌, min, true, map, length, take, drop, replicate, IfOk, vec_len};
+ghost use Rattle.std.specs.Prelude.{◌≡◌, ◌+◌, ◌*◌, ◌≤◌, ◌∷◌, ◌++◌, min, true, map, length, take, drop, replicate, IfOk, OnOk, vec_len};
 ghost use Rattle.circle.specs.Ids.{inserted};
 ghost use Rattle.circle.specs.Open.{faces, open_answer};
 ghost use Rattle.circle.specs.Card.{show_answer, shares_of};
@@ -10,7 +10,7 @@ ghost use Rattle.circle.specs.Finish.{ended};
 ghost use Rattle.circle.specs.Round.{round_facts};
 ghost use Rattle.station.specs.Desk.{settled, running, none, kept, settled_kept, running_kept, items_of, circle_standing, kept_after, answer_of, standing, done_with, set_of, element_of, elements, numbers, deal_move, begin_move, contribute_move, finish_move, abandon_move, show_said, open_said, face_of, key_of, blank};
 ghost use Rattle.station.specs.DeskParts.{settled_of, places_of, ended_kept, ended_answer, BegunIn, ContributedIn, FinishedIn, AbandonedIn};
-ghost use Rattle.station.specs.Refusal.{IfAnswered};
+ghost use Rattle.station.specs.Refusal.{IfAnswered, IfLacking};
 ghost use Rattle.script.specs.Grammar.{sections, value, values};
 ghost use Rattle.script.specs.Steps.{cards, open_stands, stated};
 
@@ -48,6 +48,16 @@ fn elements_of<F: Field>(heap: Global, tokens: &[Token]) -> Result<Vec<F>, Alloc
         .map(|token| token.value())
         .map(|number| element_of(number)) // the check does not cover the function's bare name here
         .collect(heap)
+}
+
+// Writes the elements that tokens name.
+fn write_elements<F: Field>(tokens: &[Token], xs: &mut [F])
+    requires { length xs.old ≡ length tokens.now }
+    ensures { xs.new ≡ elements F.ops F.finite (values tokens.now) }
+{
+    for (i, token) in tokens.iter().enumerate() {
+        xs[i] = element_of(token.value());
+    }
 }
 
 // So many zeros.
@@ -95,12 +105,22 @@ fn standing_of<F: Field>(heap: Global, circle: &Circle<F>) -> Result<Vec<u32>, A
     Ok(vec![in heap; epoch, threshold, circle.roll().size()]?)
 }
 
+// Puts the numbers of elements after those that are there.
+fn add_numbers<F: Field>(all: &mut Vec<u32>, xs: &[F]) -> Result<(), AllocError>
+    ensures { OnOk result (all.new.items ≡ all.old.items ++ numbers F.ops F.finite xs.now) }
+{
+    all.extend(xs.iter().map(|x| x.number()))
+}
+
 // The id, the epoch and the shares of a card.
 fn card_numbers<F: Field>(heap: Global, card: &Card<'_, F>) -> Result<Vec<u32>, AllocError>
+    requires { length card.now.shares.now ≤ 32 }
     ensures { IfOk result (λ v. v.items ≡ card.now.id ∷ card.now.epoch ∷ numbers F.ops F.finite card.now.shares.now) }
 {
-    let mut numbers = vec![in heap; u32::from(card.id), u32::from(card.epoch)]?;
-    numbers.extend_from_slice(numbers_of(heap, card.shares)?.as_slice())?;
+    let mut numbers = Vec::with_capacity(heap, 2 + card.shares.len())?;
+    numbers.push(u32::from(card.id))?;
+    numbers.push(u32::from(card.epoch))?;
+    add_numbers(&mut numbers, card.shares)?;
     Ok(numbers)
 }
 
@@ -263,40 +283,29 @@ impl<F: Field> Settled<F> {
         }
     }
 
-    // The shares of a holder.
-    fn shares_of(&self, heap: Global, id: u8) -> Result<Vec<F>, Failure>
-        ensures { IfAnswered result (λ a. items_of a ≡ done_with (shares_of F.ops self.now.memory.table.items id self.now.circle.places) (show_answer F.points.largest (facts self.now.circle) id (vec_len self.now.memory.table) self.now.circle.places)) }
-    {
-        let mut shares = zeros(heap, usize::from(self.circle.places()))?;
-        show(
-            &self.circle,
-            id,
-            self.memory.table.as_slice(),
-            shares.as_mut_slice(),
-        )?;
-        Ok(shares)
-    }
-
     // Shows a holder's card.
     fn show(&self, heap: Global, id: u8) -> Result<Vec<u32>, Failure>
         ensures { IfAnswered result (λ a. items_of a ≡ show_said F.ops F.finite F.points (settled (facts self.now.circle)) self.now.memory.table.items id) }
     {
-        let shares = self.shares_of(heap, id)?;
+        let mut row = [F::zero(); 32];
+        let shares = &mut row[..usize::from(self.circle.places())];
+        show(&self.circle, id, self.memory.table.as_slice(), shares)?;
         let card = Card {
             id,
             epoch: self.circle.epoch(),
-            shares: shares.as_slice(),
+            shares,
         };
         Ok(card_numbers(heap, &card)?)
     }
 
-    // The key that cards open.
-    fn key_of(&self, heap: Global, cards: &[Card<'_, F>]) -> Result<Vec<F>, Failure>
-        ensures { IfAnswered result (λ a. items_of a ≡ done_with (key_of F.ops F.finite F.points (facts self.now.circle) (faces cards.now)) (open_answer F.ops F.points.at F.equality.same F.points.largest (facts self.now.circle) (faces cards.now) self.now.circle.places)) }
+    // The numbers of the key that cards open.
+    fn open_cards(&self, heap: Global, cards: &[Card<'_, F>]) -> Result<Vec<u32>, Failure>
+        ensures { IfAnswered result (λ a. items_of a ≡ done_with (numbers F.ops F.finite (key_of F.ops F.finite F.points (facts self.now.circle) (faces cards.now))) (open_answer F.ops F.points.at F.equality.same F.points.largest (facts self.now.circle) (faces cards.now) self.now.circle.places)) }
     {
-        let mut key = zeros(heap, usize::from(self.circle.places()))?;
-        open(&self.circle, cards, key.as_mut_slice())?;
-        Ok(key)
+        let mut row = [F::zero(); 32];
+        let key = &mut row[..usize::from(self.circle.places())];
+        open(&self.circle, cards, key)?;
+        Ok(numbers_of(heap, key)?)
     }
 
     // Opens the key from the cards that tokens state.
@@ -306,8 +315,7 @@ impl<F: Field> Settled<F> {
     {
         let xs: Vec<F> = elements_of(heap, tokens)?;
         let cards = cards_of(heap, tokens, xs.as_slice())?;
-        let key = self.key_of(heap, cards.as_slice())?;
-        Ok(numbers_of(heap, key.as_slice())?)
+        self.open_cards(heap, cards.as_slice())
     }
 }
 
@@ -367,6 +375,7 @@ impl<F: Field> Desk<F> {
     ) -> Result<(), Failure>
         ensures kept { IfAnswered result (λ _. kept self.new ≡ kept_after (deal_move F.ops F.finite F.points (kept self.old).holding threshold places (values ids.now) (values key.now) (values numbers.now)) (kept self.old)) }
         ensures answer { IfAnswered result (λ a. a ≡ answer_of (deal_move F.ops F.finite F.points (kept self.old).holding threshold places (values ids.now) (values key.now) (values numbers.now))) }
+        ensures lacking { IfLacking result (kept self.new ≡ kept self.old) }
     {
         match self {
             Desk::Empty => {
@@ -405,9 +414,18 @@ impl<F: Field> Desk<F> {
     ) -> Result<(), Failure>
         ensures kept { IfAnswered result (λ _. kept self.new ≡ kept_after (contribute_move F.ops F.finite F.points (kept self.old).holding id (values numbers.now) (kept self.old)) (kept self.old)) }
         ensures answer { IfAnswered result (λ a. a ≡ answer_of (contribute_move F.ops F.finite F.points (kept self.old).holding id (values numbers.now) (kept self.old))) }
+        ensures lacking { IfLacking result (kept self.new ≡ kept self.old) }
     {
         match self {
             Desk::Running(running) => {
+                // So few as a row holds take no memory.
+                if numbers.len() <= 32 {
+                    let mut row = [F::zero(); 32];
+                    let xs = &mut row[..numbers.len()];
+                    write_elements(numbers, xs);
+                    running.contribute(id, xs)?;
+                    return Ok(());
+                }
                 let xs: Vec<F> = elements_of(heap, numbers)?;
                 running.contribute(id, xs.as_slice())?;
                 Ok(())

@@ -4,10 +4,10 @@ ghost use Rattle.std.specs.Prelude.{◌≡◌, ◌^◌, ◌<◌, true, Err};
 ghost use Rattle.std.specs.Option.{option_map_or};
 ghost use Rattle.script.specs.Steps.{form, meaning, step_stands};
 ghost use Rattle.station.specs.Desk.{answer_of, items_of, kept};
-ghost use Rattle.station.specs.Refusal.{IfAnswered};
+ghost use Rattle.station.specs.Refusal.{IfAnswered, IfLacking, StaysOrSteps};
 ghost use Rattle.station.specs.Station.{state, desks_state, unnamed, fresh, move, desk_said, desk_kept, line_said, line_state, StaysDealing};
 
-use super::{Desks, Station};
+use super::{Desks, DesksOf, ScriptOf, Station};
 use crate::desk::Desk;
 use crate::desk::steps::set_of;
 use crate::refusal::{Failure, Refusal};
@@ -21,6 +21,7 @@ use std::alloc::Global;
 fn perform<F: Field>(heap: Global, desk: &mut Desk<F>, step: Step<'_>) -> Result<(), Failure>
     ensures kept { IfAnswered result (λ _. kept desk.new ≡ desk_kept F.ops F.finite F.points (kept desk.old) (meaning step.entry)) }
     ensures answer { IfAnswered result (λ a. a ≡ answer_of (move F.ops F.finite F.points (kept desk.old) (meaning step.entry))) }
+    ensures lacking { IfLacking result (kept desk.new ≡ kept desk.old) }
 {
     match step {
         Step::Name(_) => Err(Refusal::NotAllowed.into()),
@@ -34,11 +35,11 @@ fn perform<F: Field>(heap: Global, desk: &mut Desk<F>, step: Step<'_>) -> Result
         Step::Refresh => Ok(desk.begin(Kind::Refresh)?),
         Step::Dismiss(id) => Ok(desk.begin(Kind::Dismissal { leaver: id })?),
         Step::Change { threshold, helpers } => {
-            let helpers = set_of(helpers);
+            let helpers = u32::from(set_of(helpers));
             Ok(desk.begin(Kind::Change { threshold, helpers })?)
         }
         Step::Admit { id, helpers } => {
-            let helpers = set_of(helpers);
+            let helpers = u32::from(set_of(helpers));
             Ok(desk.begin(Kind::Admission {
                 newcomer: id,
                 helpers,
@@ -56,6 +57,7 @@ fn step_at<F: Field>(heap: Global, desk: &mut Desk<F>, step: Step<'_>) -> Result
     requires { step_stands F.finite.size step ≡ true }
     ensures said { IfAnswered result (λ a. items_of a ≡ desk_said F.ops F.finite F.points F.equality.same (kept desk.old) (meaning step.entry)) }
     ensures kept { IfAnswered result (λ _. kept desk.new ≡ desk_kept F.ops F.finite F.points (kept desk.old) (meaning step.entry)) }
+    ensures lacking { IfLacking result (StaysOrSteps (kept desk.old) (desk_kept F.ops F.finite F.points (kept desk.old) (meaning step.entry)) (kept desk.new)) }
 {
     match step {
         Step::Show(id) => desk.show(heap, id),
@@ -90,6 +92,7 @@ fn answer_at<F: Field, const ROUNDS: bool>(
     requires { F.finite.size < 2 ^ 32 }
     ensures said { IfAnswered result (λ a. items_of a ≡ option_map_or (desk_said F.ops F.finite F.points F.equality.same (kept desk.old)) (form ROUNDS F.finite.size line.now) (Err Refusal.NotOfForm)) }
     ensures kept { IfAnswered result (λ _. kept desk.new ≡ option_map_or (desk_kept F.ops F.finite F.points (kept desk.old)) (form ROUNDS F.finite.size line.now) (kept desk.old)) }
+    ensures lacking { IfLacking result (StaysOrSteps (kept desk.old) (option_map_or (desk_kept F.ops F.finite F.points (kept desk.old)) (form ROUNDS F.finite.size line.now) (kept desk.old)) (kept desk.new)) }
 {
     match parse::<ROUNDS>(size::<F>(), line, room)? {
         Some(step) => step_at(heap, desk, step),
@@ -119,6 +122,7 @@ impl Desks {
     ) -> Result<Vec<u32>, Failure>
         ensures said { IfAnswered result (λ a. items_of a ≡ line_said ROUNDS (desks_state self.old) line.now) }
         ensures state { IfAnswered result (λ _. desks_state self.new ≡ line_state ROUNDS (desks_state self.old) line.now) }
+        ensures lacking { IfLacking result (StaysOrSteps (desks_state self.old) (line_state ROUNDS (desks_state self.old) line.now) (desks_state self.new)) }
     {
         match self {
             Desks::Unnamed => match parse::<ROUNDS>(65536, line, room)? {
@@ -143,7 +147,10 @@ impl<const ROUNDS: bool> Station<ROUNDS> {
         ensures { state result ≡ unnamed }
     {
         Station {
-            desks: Desks::Unnamed,
+            of_script: DesksOf {
+                desks: Desks::Unnamed,
+                script: ScriptOf {},
+            },
         }
     }
 
@@ -157,8 +164,10 @@ impl<const ROUNDS: bool> Station<ROUNDS> {
         ensures said { IfAnswered result (λ a. items_of a ≡ line_said ROUNDS (state self.old) line.now) }
         ensures state { IfAnswered result (λ _. state self.new ≡ line_state ROUNDS (state self.old) line.now) }
         ensures dealing { StaysDealing }
+        // Where there was no memory to answer, the state is as it was, or as the line leaves it.
+        ensures lacking { IfLacking result (StaysOrSteps (state self.old) (line_state ROUNDS (state self.old) line.now) (state self.new)) }
     {
         dealing_shown();
-        self.desks.answer::<ROUNDS>(heap, line, room)
+        self.of_script.desks.answer::<ROUNDS>(heap, line, room)
     }
 }
